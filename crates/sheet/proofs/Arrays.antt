@@ -1,0 +1,22 @@
+-- An array that is filled from its start, beside the list of what was stored. Each place not yet filled holds what stands for an entry that is not there,
+-- so the array reads as the list does at every number. Assumes nothing.
+use mathlib.Core.Path.{_≡_}
+use mathlib.Core.List.{List, [], _∷_, _++_}
+use Prim.Native.Nat.{ℕ, zero, suc, _<_}
+use native.Mathlib.Omega.{arith}
+use lib.ListN.{length, getD, set}
+
+-- the array reads as a part of each entry does; d stands for an entry that is not there
+abbrev pub Reads : {A B : Type 0} → (A → B) → A → List B → List A → Type 0
+Reads part d array vs = (a : ℕ) → getD array a (part d) ≡ part (getD vs a d)
+
+-- one entry more, stored behind the others
+pub reads-more : {A B : Type 0} (part : A → B) (d v : A) (w : B) (l : List B) (vs : List A) (n : ℕ) → length vs ≡ n → n < length l → w ≡ part v
+    → Reads part d l vs → Reads part d (set l n w) (vs ++ v ∷ [])
+reads-more part d v w [] vs n e k p h a = let z : ⊥ = omega arith in absurd z
+reads-more part d v w (x ∷ l) [] zero e k p h zero = p
+reads-more part d v w (x ∷ l) [] zero e k p h (suc a) = h (suc a)
+reads-more part d v w (x ∷ l) [] (suc n) e k p h a = let z : ⊥ = omega arith in absurd z
+reads-more part d v w (x ∷ l) (y ∷ vs) zero e k p h a = let z : ⊥ = omega arith in absurd z
+reads-more part d v w (x ∷ l) (y ∷ vs) (suc n) e k p h zero = h zero
+reads-more part d v w (x ∷ l) (y ∷ vs) (suc n) e k p h (suc a) = reads-more part d v w l vs n (omega arith) (omega arith) p (λ b. h (suc b)) a

@@ -1,0 +1,36 @@
+-- What `check` answers at each of its tests. Assumes nothing.
+use mathlib.Core.Path.{_≡_, sym, _∙_}
+use mathlib.Core.List.{List}
+use Prim.Native.Nat.{ℕ, _+_, _<_, _≤_}
+use borrow.Author.Tests.{lt-ltb, le-ltb, eq-eqb, ne-eqb}
+use lib.ListN.{length, getD}
+use Rattle.bigendian.specs.Numbers.{unsignedAt}
+use Rattle.sheet.specs.declared.Refusal.the-variants.{Length, Version, Record}
+use Rattle.sheet.specs.declared.Checked.{Checked}
+use Rattle.sheet.specs.declared.Checked.the-variants.{Refused}
+use Rattle.sheet.specs.Records.{recordsOf, stopOf}
+use Rattle.sheet.specs.Check.{sortedOf, checkOf}
+
+module _ (s : List ℕ) where
+  pub too-short : length s < 3 → Refused Length ≡ checkOf s
+  unfolding checkOf
+  too-short h = rw (lt-ltb (length s) 3 h)
+
+  module _ (long : 3 ≤ length s) (u : ℕ) (is : u ≡ unsignedAt 2 s 0) where
+    pub disagrees : (u + 2 ≡ length s → ⊥) → Refused Length ≡ checkOf s
+    unfolding checkOf
+    disagrees h = rw (le-ltb (length s) 3 long, ← is, ne-eqb _ _ h)
+
+    module _ (agrees : u + 2 ≡ length s) where
+      pub other-version : (getD s 2 0 ≡ 1 → ⊥) → Refused Version ≡ checkOf s
+      unfolding checkOf
+      other-version h = rw (le-ltb (length s) 3 long, ← is, eq-eqb _ _ agrees, ne-eqb _ _ h)
+
+      module _ (version : getD s 2 0 ≡ 1) (stop : ℕ) (at : stop ≡ stopOf s) where
+        pub bad-record : stop < length s → Refused (Record stop) ≡ checkOf s
+        unfolding checkOf
+        bad-record h = rw (le-ltb (length s) 3 long, ← is, eq-eqb _ _ agrees, version, ← at, lt-ltb _ _ h)
+
+        pub all-framed : (r : Checked) → length s ≤ stop → r ≡ sortedOf (recordsOf s) → r ≡ checkOf s
+        unfolding checkOf
+        all-framed r h e = rw (le-ltb (length s) 3 long, ← is, eq-eqb _ _ agrees, version, ← at, le-ltb _ _ h) e

@@ -1,0 +1,5 @@
+pub mod Rows
+pub mod Walk
+pub mod Arrays
+pub mod Sorting
+pub mod Checking

@@ -1,0 +1,60 @@
+-- `sheet::stop` meets its contract. The invariant: as many records came before as are not left to come. The measure is what is left. Assumes nothing.
+use mathlib.Core.Path.{sym, ap, _∙_}
+use Prim.Native.Nat.{_-_}
+use borrow.Author.Needs.{needs}
+use Rattle.sheet.specs.Table.{placeOf}
+use Rattle.sheet.proofs.Walk.{At, at-first, at-after, fewer-left, stop-is}
+use Rattle.sheet.proofs.stop.Statement.{statement}
+use Rattle.sheet.proofs.stop.Tie as tie
+
+abbrev Inv-loop : tie.InvT-loop
+Inv-loop s c₀ c = At s c (256 - c .left)
+
+abbrev μ-loop : tie.MeasureT-loop
+μ-loop s c₀ c = c .left
+
+start-requires : tie.Need-start-requires Inv-loop μ-loop
+start-requires c κs = search needs
+
+loop-holds : tie.Need-loop-holds Inv-loop μ-loop
+loop-holds c = at-first _ _ (c .start .ensures)
+
+read-requires : tie.Need-read-requires Inv-loop μ-loop
+read-requires c κs = search needs
+
+enum-known-r : tie.Need-enum-known-r Inv-loop μ-loop
+enum-known-r c = search needs
+
+enum-told : tie.Need-enum-told Inv-loop μ-loop
+enum-told c = search needs
+
+place-requires : tie.Need-place-requires Inv-loop μ-loop
+place-requires c κs = search needs
+
+returns : tie.Need-returns Inv-loop μ-loop
+returns c =
+    c .place .ensures ∙ ap placeOf (c .before .enum-told .given .1) ∙ stop-is _ _ _ (c .before .before .before .before .loop .inv) _ (sym (c .before .before .before .read .ensures) ∙ c .before .enum-told .given .1)
+
+loop-less : tie.Need-loop-less Inv-loop μ-loop
+loop-less c =
+    fewer-left _ _ _ (c .before .before .before .before .loop .inv) _ _ (sym (c .before .before .before .read .ensures) ∙ c .before .r .given .1)
+
+loop-again : tie.Need-loop-again Inv-loop μ-loop
+loop-again c =
+    at-after _ _ (c .before .before .before .before .loop .inv) _ _ (sym (c .before .before .before .read .ensures) ∙ c .before .r .given .1)
+
+pub stop-spec : {M : Type 1} → statement M
+stop-spec =
+    tie.close
+    (tie.spec
+    Inv-loop
+    μ-loop
+    start-requires
+    loop-holds
+    read-requires
+    enum-known-r
+    enum-told
+    place-requires
+    returns
+    loop-less
+    loop-again)

@@ -1,0 +1,33 @@
+-- `sheet::two_operands` meets its contract: the tests on the kind pick the row. Assumes nothing.
+use borrow.Author.Tests.{ne-eqb}
+use Rattle.sheet.specs.Table.{rowOf}
+use Rattle.sheet.proofs.two_operands.Statement.{statement}
+use Rattle.sheet.proofs.two_operands.Tie as tie
+
+returns : tie.Need-returns
+unfolding rowOf
+returns c = rw (c .if1 .taken)
+
+returns-2 : tie.Need-returns-2
+unfolding rowOf
+returns-2 c = rw (c .if2 .taken)
+
+returns-3 : tie.Need-returns-3
+unfolding rowOf
+returns-3 c = rw (c .if3 .taken)
+
+returns-4 : tie.Need-returns-4
+unfolding rowOf
+returns-4 c = rw (c .if4 .taken)
+
+returns-5 : tie.Need-returns-5
+unfolding rowOf
+returns-5 c = rw (c .if5 .taken)
+
+returns-6 : tie.Need-returns-6
+unfolding rowOf
+returns-6 c =
+    rw (ne-eqb _ _ (c .before .before .before .before .if1 .left), ne-eqb _ _ (c .before .before .before .if2 .left), ne-eqb _ _ (c .before .before .if3 .left), ne-eqb _ _ (c .before .if4 .left), ne-eqb _ _ (c .if5 .left))
+
+pub two-operands-spec : {M : Type 1} → statement M
+two-operands-spec = tie.close (tie.spec returns returns-2 returns-3 returns-4 returns-5 returns-6)

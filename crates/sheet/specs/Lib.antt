@@ -1,0 +1,4 @@
+pub mod Table
+pub mod Records
+pub mod Operands
+pub mod Check

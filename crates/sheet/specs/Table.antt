@@ -1,0 +1,53 @@
+-- The zone sheet's table of kinds, and the record at a place of a sheet. Assumes nothing: these are definitions.
+use Prim.Native.Nat.{ℕ, _+_, _-_}
+use mathlib.Core.Bool.{cond, _&&_}
+use mathlib.Core.List.{List}
+use lib.Dec.{eqb, leb}
+use lib.IntN.{ℤ}
+use lib.ListN.{length, getD}
+use Rattle.bigendian.specs.Numbers.{signedAt}
+use Rattle.sheet.specs.declared.Record.{Record}
+use Rattle.sheet.specs.declared.Record.the-variants.{Constant, X, Y, Z, Sum, Difference, Product, Square, Face, Both, Either, Complement}
+use Rattle.sheet.specs.declared.Row.{Row}
+use Rattle.sheet.specs.declared.Row.the-variants.{Known, Unknown}
+use Rattle.sheet.specs.declared.Cursor.{Cursor}
+use Rattle.sheet.specs.declared.Read.{Read}
+use Rattle.sheet.specs.declared.Read.the-variants.{Found, Refused}
+
+-- The table, row by row: a count byte, a kind, and the record that they make with the bytes after the kind: a and b its first two, c all four as a signed number.
+unfoldable pub rowOf : ℕ → ℕ → ℕ → ℕ → ℤ → Row
+rowOf size kind a b c =
+    cond (eqb size 5 && eqb kind 1) (Known (Constant c))
+    (cond (eqb size 1 && eqb kind 2) (Known X)
+    (cond (eqb size 1 && eqb kind 3) (Known Y)
+    (cond (eqb size 1 && eqb kind 4) (Known Z)
+    (cond (eqb size 3 && eqb kind 5) (Known (Sum a b))
+    (cond (eqb size 3 && eqb kind 6) (Known (Difference a b))
+    (cond (eqb size 3 && eqb kind 7) (Known (Product a b))
+    (cond (eqb size 2 && eqb kind 8) (Known (Square a))
+    (cond (eqb size 2 && eqb kind 16) (Known (Face a))
+    (cond (eqb size 3 && eqb kind 17) (Known (Both a b))
+    (cond (eqb size 3 && eqb kind 18) (Known (Either a b))
+    (cond (eqb size 2 && eqb kind 19) (Known (Complement a))
+    Unknown)))))))))))
+
+-- the row that fits the bytes from `at` on
+unfoldable pub rowAt : List ℕ → ℕ → Row
+rowAt s at = rowOf (getD s at 0) (getD s (at + 1) 0) (getD s (at + 2) 0) (getD s (at + 3) 0) (signedAt s (at + 2))
+
+-- the record of a row, with the cursor past it, or the refusal at its offset
+abbrev pub onRow : Row → Cursor → ℕ → Read
+onRow (Known r) next at = Found r next
+onRow Unknown next at = Refused at
+
+-- The record at a cursor. It is refused, at its byte offset, if it would be the 257th (none is left to come), runs over the end, or no row fits it: an unknown kind or a wrong count.
+unfoldable pub readAt : List ℕ → Cursor → Read
+readAt s c =
+    cond (eqb (c .left) 0) (Refused (c .at))
+    (cond (leb (length s) (c .at + getD s (c .at) 0)) (Refused (c .at))
+    (onRow (rowAt s (c .at)) (record { at = c .at + 1 + getD s (c .at) 0; left = c .left - 1 }) (c .at)))
+
+-- where reading stands after this: past the record, or at the one that is refused
+abbrev pub placeOf : Read → ℕ
+placeOf (Found r next) = next .at
+placeOf (Refused at) = at

@@ -1,5 +1,10 @@
 // Runs the sheet check over document 01's sheets and over one damaged sheet for each refusal, and writes code and number (records, where the code is 0).
 
+ghost use mathlib.Core.Path.{_≡_};
+ghost use Prim.Native.Nat.{_≤_};
+ghost use lib.ListN.{length};
+ghost use Rattle.io.specs.Counts.{Counts};
+
 // One line: what the sheet is, code, number.
 fn show(what: &[u8], sheet: &[u8]) {
     let _said = io::write_all(1, what);
@@ -21,9 +26,11 @@ fn line(code: u32, number: usize) {
     let _end = io::write_all(1, b"\n");
 }
 
-// A sheet of n records that are all x but the last, a face of record 0; n is from 1 to 260.
-fn many(what: &[u8], n: usize) {
-    let mut s = [0u8; 524];
+// Puts a sheet of n records at the start of s, all x but the last, a face of record 0, and answers its length.
+fn fill(s: &mut [u8], n: usize) -> usize
+    requires { ⌜ (n ≤ 260) × (length (now s) ≡ 524) ⌝ }
+    ensures { λ r. ⌜ Counts r (now (s .exit)) ⌝ }
+{
     let mut at = 3;
     let mut i = 1;
     while i < n {
@@ -35,11 +42,18 @@ fn many(what: &[u8], n: usize) {
     s[at] = 2;
     s[at + 1] = 16;
     s[at + 2] = 0;
-    let length = at + 1;
-    s[0] = (length / 256) as u8;
-    s[1] = (length % 256) as u8;
+    s[0] = ((at + 1) / 256) as u8;
+    s[1] = ((at + 1) % 256) as u8;
     s[2] = 1;
-    show(what, &s[..at + 3]);
+    at + 3
+}
+
+fn many(what: &[u8], n: usize)
+    requires { ⌜ n ≤ 260 ⌝ }
+{
+    let mut s = [0u8; 524];
+    let size = fill(&mut s, n);
+    show(what, &s[..size]);
 }
 
 fn lengths() {

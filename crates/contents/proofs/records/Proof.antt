@@ -1,0 +1,70 @@
+-- `contents::records` ends, and its count stays below 257: n records came before the cursor. Assumes nothing.
+use mathlib.Core.Path.{sym, _∙_}
+use native.Mathlib.Omega.{arith}
+use borrow.Author.Needs.{needs}
+use Rattle.sheet.proofs.Walk.{At, at-start, at-next, fewer-left}
+use Rattle.contents.proofs.records.Statement.{statement}
+use Rattle.contents.proofs.records.Tie as tie
+
+abbrev Inv-loop : tie.InvT-loop
+Inv-loop s c₀ n₀ c n = At s c n
+
+abbrev μ-loop : tie.MeasureT-loop
+μ-loop s c₀ n₀ c n = c .left
+
+start-requires : tie.Need-start-requires Inv-loop μ-loop
+start-requires c κs = search needs
+
+loop-holds : tie.Need-loop-holds Inv-loop μ-loop
+loop-holds c = rw (c .start .ensures) (at-start _)
+
+read-requires : tie.Need-read-requires Inv-loop μ-loop
+read-requires c κs = search needs
+
+enum-known-r : tie.Need-enum-known-r Inv-loop μ-loop
+enum-known-r c = search needs
+
+enum-told : tie.Need-enum-told Inv-loop μ-loop
+enum-told c = search needs
+
+returns : tie.Need-returns Inv-loop μ-loop
+returns c = search needs
+
+print-decimal-requires : tie.Need-print-decimal-requires Inv-loop μ-loop
+print-decimal-requires c κs = search needs
+
+record-requires : tie.Need-record-requires Inv-loop μ-loop
+record-requires c κs = search needs
+
+end-requires : tie.Need-end-requires Inv-loop μ-loop
+end-requires c κs = search needs
+
+add-n : tie.Need-add-n Inv-loop μ-loop
+add-n c = omega (arith, c .before .before .before .before .before .before .before .loop .inv .total)
+
+loop-less : tie.Need-loop-less Inv-loop μ-loop
+loop-less c =
+    fewer-left _ _ _ (c .before .before .before .before .before .before .before .loop .inv) _ _ (sym (c .before .before .before .before .before .before .read .ensures) ∙ c .before .before .before .before .r .given .1)
+
+loop-again : tie.Need-loop-again Inv-loop μ-loop
+loop-again c =
+    at-next _ _ _ (c .before .before .before .before .before .before .before .loop .inv) _ _ (sym (c .before .before .before .before .before .before .read .ensures) ∙ c .before .before .before .before .r .given .1)
+
+pub records-spec : {M : Type 1} → statement M
+records-spec =
+    tie.close
+    (tie.spec
+    Inv-loop
+    μ-loop
+    start-requires
+    loop-holds
+    read-requires
+    enum-known-r
+    enum-told
+    returns
+    print-decimal-requires
+    record-requires
+    end-requires
+    add-n
+    loop-less
+    loop-again)

@@ -1,0 +1,109 @@
+// Says what a zone sheet holds: reads a sheet from standard input and writes a line a record, or `refused code number`.
+
+fn main() {
+    let mut input = io::buffer();
+    let n = io::read_full(0, &mut input);
+    tell(&input[..n]);
+}
+
+fn tell(s: &[u8]) {
+    match sheet::check(s) {
+        sheet::Checked::Good(_) => {
+            records(s);
+        }
+        sheet::Checked::Refused(why) => {
+            let _refused = io::write_all(1, b"refused");
+            number(why.code() as u64);
+            number(why.number() as u64);
+            end();
+        }
+    }
+}
+
+fn records(s: &[u8]) {
+    let mut c = sheet::Cursor::start();
+    let mut n = 0;
+    loop {
+        let sheet::Read::Found(r, next) = c.read(s) else {
+            return;
+        };
+        let _number = io::print_decimal(1, n);
+        record(r);
+        end();
+        n += 1;
+        c = next;
+    }
+}
+
+// A record's kind and what follows it.
+fn record(r: sheet::Record) {
+    match r {
+        sheet::Record::Constant(c) => {
+            let _kind = io::write_all(1, b" constant");
+            whole(c);
+        }
+        sheet::Record::X => {
+            let _kind = io::write_all(1, b" x");
+        }
+        sheet::Record::Y => {
+            let _kind = io::write_all(1, b" y");
+        }
+        sheet::Record::Z => {
+            let _kind = io::write_all(1, b" z");
+        }
+        sheet::Record::Sum(a, b) => {
+            operands(b" sum", a, b);
+        }
+        sheet::Record::Difference(a, b) => {
+            operands(b" difference", a, b);
+        }
+        sheet::Record::Product(a, b) => {
+            operands(b" product", a, b);
+        }
+        sheet::Record::Square(a) => {
+            operand(b" square", a);
+        }
+        sheet::Record::Face(a) => {
+            operand(b" face", a);
+        }
+        sheet::Record::Both(p, q) => {
+            operands(b" both", p, q);
+        }
+        sheet::Record::Either(p, q) => {
+            operands(b" either", p, q);
+        }
+        sheet::Record::Complement(p) => {
+            operand(b" complement", p);
+        }
+    }
+}
+
+fn operand(kind: &[u8], a: u8) {
+    let _kind = io::write_all(1, kind);
+    number(a as u64);
+}
+
+fn operands(kind: &[u8], a: u8, b: u8) {
+    operand(kind, a);
+    number(b as u64);
+}
+
+// A space and a number.
+fn number(n: u64) {
+    let _space = io::write_all(1, b" ");
+    let _number = io::print_decimal(1, n);
+}
+
+// A space and a number with its sign.
+fn whole(n: i32) {
+    if n < 0 {
+        let _sign = io::write_all(1, b" -");
+        let _number = io::print_decimal(1, (-1 - n) as u64 + 1);
+        return;
+    }
+    number(n as u64);
+}
+
+fn end() {
+    let _end = io::write_all(1, b"\n");
+}

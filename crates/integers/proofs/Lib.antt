@@ -1,0 +1,5 @@
+pub mod Naturals
+pub mod Ring
+pub mod Order
+pub mod Least
+pub mod Machine

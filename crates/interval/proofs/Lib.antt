@@ -1,0 +1,9 @@
+pub mod Limit
+pub mod Facts
+pub mod Tests
+pub mod Products
+pub mod Operations
+pub mod Inclusion
+pub mod Inside
+pub mod AtPoint
+pub mod Rows

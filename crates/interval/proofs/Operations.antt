@@ -1,0 +1,71 @@
+-- The needs of the operations on intervals, each as it stands: the machine reads a number back from its bits. Assumes nothing.
+use mathlib.Core.Path.{_≡_, ap, ap₂, _∙_}
+use mathlib.Core.Bool.{true, false}
+use Prim.Native.Nat.{_≤_, _<_, _^_}
+use lib.IntN.{ℤ, pos, natAbs, _+ℤ_, _-ℤ_, _*ℤ_}
+use lib.Signed.{mag, leZ}
+use mir.Syntax.{w64}
+use mir.Val.{toZ, ofZ}
+use Rattle.integers.specs.Least.{greaterOf, leastOf, greatestOf}
+use Rattle.integers.proofs.Least.{greater-kept, least-kept, greatest-kept}
+use Rattle.integers.proofs.Machine.{again}
+use Rattle.interval.specs.Rules.{from, span, sum, difference, product, square}
+use Rattle.interval.specs.Limit.{SmallEnds, isSmall, boundedOf, clampOf}
+use Rattle.interval.specs.declared.Interval.{Interval}
+use Rattle.interval.specs.declared.Bounded.{Bounded}
+use Rattle.interval.proofs.Limit.{limit-back, sum-back, difference-back, clamp-keeps, bounded-clamped}
+
+-- ---- the sum and the difference
+module _ (r : Bounded) (i j : Interval) (si : SmallEnds i) (sj : SmallEnds j) where
+  pub sum-told : r ≡ boundedOf (from (toZ w64 (ofZ w64 (toZ w64 (ofZ w64 (i .low)) +ℤ toZ w64 (ofZ w64 (j .low))))) (toZ w64 (ofZ w64 (toZ w64 (ofZ w64 (i .high)) +ℤ toZ w64 (ofZ w64 (j .high))))))
+      → r ≡ boundedOf (sum i j)
+  unfolding sum
+  sum-told e = e ∙ ap boundedOf (ap₂ from (sum-back (i .low) (j .low) (si .low) (sj .low)) (sum-back (i .high) (j .high) (si .high) (sj .high)))
+
+  pub difference-told : r ≡ boundedOf (from (toZ w64 (ofZ w64 (toZ w64 (ofZ w64 (i .low)) -ℤ toZ w64 (ofZ w64 (j .high))))) (toZ w64 (ofZ w64 (toZ w64 (ofZ w64 (i .high)) -ℤ toZ w64 (ofZ w64 (j .low))))))
+      → r ≡ boundedOf (difference i j)
+  unfolding difference
+  difference-told e = e ∙ ap boundedOf (ap₂ from (difference-back (i .low) (j .high) (si .low) (sj .high)) (difference-back (i .high) (j .low) (si .high) (sj .low)))
+
+-- ---- the product and the square: what a call of `times` answered, read back
+pub times-told : (r a b : ℤ) → natAbs a ≤ 2 ^ 60 → natAbs b ≤ 2 ^ 60 → r ≡ clampOf (toZ w64 (ofZ w64 a) *ℤ toZ w64 (ofZ w64 b)) → mag r < 2 ^ 63
+    → toZ w64 (ofZ w64 r) ≡ clampOf (a *ℤ b)
+times-told r a b ha hb e h = again w64 r (clampOf (a *ℤ b)) (rw (limit-back a ha, limit-back b hb) at e) h
+
+-- the limit is put as well to the span of four numbers clamped
+span-clamped : (p q r s : ℤ) → boundedOf (span (clampOf p) (clampOf q) (clampOf r) (clampOf s)) ≡ boundedOf (span p q r s)
+unfolding span
+span-clamped p q r s =
+    ap boundedOf (ap₂ from (least-kept clampOf clamp-keeps p q r s) (greatest-kept clampOf clamp-keeps p q r s)) ∙ bounded-clamped (leastOf p q r s) (greatestOf p q r s)
+
+pub product-told : (r : Bounded) (i j k : Interval) (ac ad bc bd : ℤ) → r ≡ boundedOf k → k ≡ span ac ad bc bd
+    → ac ≡ clampOf (i .low *ℤ j .low) → ad ≡ clampOf (i .low *ℤ j .high) → bc ≡ clampOf (i .high *ℤ j .low) → bd ≡ clampOf (i .high *ℤ j .high)
+    → r ≡ boundedOf (product i j)
+unfolding product
+product-told r i j k ac ad bc bd e f eac ead ebc ebd =
+    e ∙ ap boundedOf f ∙ rw (eac, ead, ebc, ebd) (span-clamped (i .low *ℤ j .low) (i .low *ℤ j .high) (i .high *ℤ j .low) (i .high *ℤ j .high))
+
+-- aa and bb are the squares of the ends, clamped
+module _ (r : Bounded) (i : Interval) (aa bb : ℤ) (s : SmallEnds i) (ea : aa ≡ clampOf (i .low *ℤ i .low)) (eb : bb ≡ clampOf (i .high *ℤ i .high)) where
+  read-low : toZ w64 (ofZ w64 (i .low)) ≡ i .low
+  read-low = limit-back (i .low) (s .low)
+
+  read-high : toZ w64 (ofZ w64 (i .high)) ≡ i .high
+  read-high = limit-back (i .high) (s .high)
+
+  pub square-up : leZ (pos 0) (toZ w64 (ofZ w64 (i .low))) ≡ true → r ≡ boundedOf (from aa bb) → r ≡ boundedOf (square i)
+  unfolding square
+  square-up t e = rw (rw read-low at t) (e ∙ rw (ea, eb) (bounded-clamped (i .low *ℤ i .low) (i .high *ℤ i .high)))
+
+  module _ (t : leZ (pos 0) (toZ w64 (ofZ w64 (i .low))) ≡ false) where
+    pub square-down : leZ (toZ w64 (ofZ w64 (i .high))) (pos 0) ≡ true → r ≡ boundedOf (from bb aa) → r ≡ boundedOf (square i)
+    unfolding square
+    square-down u e = rw (rw read-low at t, rw read-high at u) (e ∙ rw (ea, eb) (bounded-clamped (i .high *ℤ i .high) (i .low *ℤ i .low)))
+
+    pub square-across : (g : ℤ) → leZ (toZ w64 (ofZ w64 (i .high))) (pos 0) ≡ false → g ≡ greaterOf aa bb → mag g < 2 ^ 63
+        → r ≡ boundedOf (from (pos 0) (toZ w64 (ofZ w64 g))) → r ≡ boundedOf (square i)
+    unfolding square clampOf isSmall
+    square-across g u f h e =
+        let high = again w64 g (clampOf (greaterOf (i .low *ℤ i .low) (i .high *ℤ i .high)))
+        (f ∙ ap₂ greaterOf ea eb ∙ greater-kept clampOf clamp-keeps (i .low *ℤ i .low) (i .high *ℤ i .high)) h in
+        rw (rw read-low at t, rw read-high at u) (e ∙ rw high (bounded-clamped (pos 0) (greaterOf (i .low *ℤ i .low) (i .high *ℤ i .high))))

@@ -1,0 +1,100 @@
+-- The needs of `magnitude`, `is_small_product` and `times`, each as it stands: the machine reads a number back from its bits. Assumes nothing.
+use mathlib.Core.Path.{_≡_, refl, sym, _∙_}
+use mathlib.Core.Bool.{Bool, true, false, Bool·beq}
+use Prim.Native.Nat.{ℕ, zero, suc, _+_, _*_, _/_, _≤_, _<_, _^_}
+use native.Mathlib.Nat.{mul-le-mul, le-div-iff-mul-le, div-lt-iff-lt-mul}
+use native.Mathlib.Omega.{arith}
+use borrow.Author.Tests.{leb-true, leb-false, le-leb, lt-leb, le-ltb, ltb-true}
+use lib.Dec.{T, leb}
+use lib.IntN.{ℤ, pos, negsuc, negℤ, natAbs, _-ℤ_, _*ℤ_, +ℤ-idl}
+use lib.Signed.{ltZ, nonNeg}
+use mir.Syntax.{w64}
+use mir.Val.{SFits, Fits, toZ, ofZ}
+use Rattle.integers.proofs.Naturals.{abs-*, abs-neg}
+use Rattle.integers.proofs.Order.{by-test}
+use Rattle.integers.proofs.Machine.{fits, result-fits, result-back}
+use Rattle.interval.specs.Limit.{isSmall, clampOf}
+use Rattle.interval.proofs.Limit.{small-true, small-false, limit-fits, limit-back, difference-fits, difference-back, clamp-same}
+
+-- ---- magnitude
+negative : (a : ℤ) → ltZ a (pos 0) ≡ true → T (nonNeg (negℤ a))
+negative (pos n) t = let z : ⊥ = omega (arith, ltb-true) in absurd z
+negative (negsuc n) t = tt
+
+not-negative : (a : ℤ) → ltZ a (pos 0) ≡ false → T (nonNeg a)
+not-negative (pos n) t = tt
+not-negative (negsuc n) t = let z : _≡_ {A = ℕ} 0 1 = cc in omega arith
+
+module _ (a : ℤ) (h : natAbs a ≤ 2 ^ 60) where
+  pub negated-fits : SFits w64 (pos 0 -ℤ toZ w64 (ofZ w64 a))
+  negated-fits = difference-fits (pos 0) a (omega arith) h
+
+  negated-back : toZ w64 (ofZ w64 (pos 0 -ℤ toZ w64 (ofZ w64 a))) ≡ negℤ a
+  negated-back = difference-back (pos 0) a (omega arith) h ∙ +ℤ-idl (negℤ a)
+
+  pub negated-cast : ltZ (toZ w64 (ofZ w64 a)) (pos 0) ≡ true →
+      T (nonNeg (toZ w64 (ofZ w64 (pos 0 -ℤ toZ w64 (ofZ w64 a))))) × Fits w64 (natAbs (toZ w64 (ofZ w64 (pos 0 -ℤ toZ w64 (ofZ w64 a)))))
+  negated-cast t = rw negated-back (negative a (rw (limit-back a h) at t), record { fits = omega (arith, abs-neg a) })
+
+  pub negated-is : natAbs (toZ w64 (ofZ w64 (pos 0 -ℤ toZ w64 (ofZ w64 a)))) ≡ natAbs a
+  negated-is = rw negated-back (abs-neg a)
+
+  pub plain-cast : ltZ (toZ w64 (ofZ w64 a)) (pos 0) ≡ false → T (nonNeg (toZ w64 (ofZ w64 a))) × Fits w64 (natAbs (toZ w64 (ofZ w64 a)))
+  plain-cast t = rw (limit-back a h) (not-negative a (rw (limit-back a h) at t), record { fits = omega arith })
+
+-- ---- is_small_product
+module _ (m n : ℕ) where
+  pub product-halves : m ≤ 2 ^ 30 → n ≤ 2 ^ 30 → true ≡ leb (m * n) (2 ^ 60)
+  product-halves h k = sym (le-leb (m * n) (2 ^ 60) (mul-le-mul h k))
+
+  pub product-zero : n ≡ 0 → true ≡ leb (m * n) (2 ^ 60)
+  product-zero e = sym (le-leb (m * n) (2 ^ 60) (rw e (omega arith)))
+
+  pub product-quotient : (n ≡ 0 → ⊥) → leb m (2 ^ 60 / n) ≡ leb (m * n) (2 ^ 60)
+  product-quotient z =
+      by-test (leb m (2 ^ 60 / n))
+      (λ t. t ∙ sym (le-leb (m * n) (2 ^ 60) (le-div-iff-mul-le {k = n} {x = m} (omega arith) .0 (leb-true m (2 ^ 60 / n) t))))
+      (λ t. t ∙ sym (lt-leb (m * n) (2 ^ 60) (div-lt-iff-lt-mul {k = n} {y = m} (omega arith) .0 (leb-false m (2 ^ 60 / n) t))))
+
+-- ---- times
+-- a product that is not zero is positive where its factors have one sign
+minus : (n : ℕ) → 0 < n → nonNeg (negℤ (pos n)) ≡ false
+minus zero h = let z : ⊥ = omega arith in absurd z
+minus (suc n) h = refl
+
+plus : (n : ℕ) → ltZ (pos n) (pos 0) ≡ false
+plus n = le-ltb n 0 (omega arith)
+
+side : (a b : ℤ) → 0 < natAbs a * natAbs b → nonNeg (a *ℤ b) ≡ Bool·beq (ltZ a (pos 0)) (ltZ b (pos 0))
+side (pos a) (pos b) h = rw (plus a, plus b)
+side (pos a) (negsuc b) h = rw (plus a, minus (a * suc b) (omega arith))
+side (negsuc a) (pos b) h = rw (plus b, minus (suc a * b) (omega arith))
+side (negsuc a) (negsuc b) h = refl
+
+-- m and n are the magnitudes that the two calls answered, and s is what `is_small_product` answered of them
+module _ (a b : ℤ) (m n : ℕ) (s : Bool) (ha : natAbs a ≤ 2 ^ 60) (hb : natAbs b ≤ 2 ^ 60)
+    (em : m ≡ natAbs (toZ w64 (ofZ w64 a))) (en : n ≡ natAbs (toZ w64 (ofZ w64 b))) (e : s ≡ leb (m * n) (2 ^ 60)) where
+  small-is : isSmall (a *ℤ b) ≡ s
+  unfolding isSmall
+  small-is = rw abs-* (rw (limit-back a ha, limit-back b hb) at (sym (rw (em, en) at e)))
+
+  product-fits : s ≡ true → SFits w64 (a *ℤ b)
+  product-fits t = fits w64 (a *ℤ b) (omega (arith, small-true (a *ℤ b) (small-is ∙ t)))
+
+  pub times-fits : s ≡ true → SFits w64 (toZ w64 (ofZ w64 a) *ℤ toZ w64 (ofZ w64 b))
+  times-fits t = result-fits w64 _*ℤ_ a b (limit-fits a ha) (limit-fits b hb) (product-fits t)
+
+  pub times-exact : s ≡ true → toZ w64 (ofZ w64 (toZ w64 (ofZ w64 a) *ℤ toZ w64 (ofZ w64 b))) ≡ clampOf (a *ℤ b)
+  times-exact t = result-back w64 _*ℤ_ a b (limit-fits a ha) (limit-fits b hb) (product-fits t) ∙ sym (clamp-same (a *ℤ b) (small-is ∙ t))
+
+  module _ (t : s ≡ false) where
+    side-is : (u : Bool) → Bool·beq (ltZ (toZ w64 (ofZ w64 a)) (pos 0)) (ltZ (toZ w64 (ofZ w64 b)) (pos 0)) ≡ u → nonNeg (a *ℤ b) ≡ u
+    side-is u k = side a b (omega (arith, abs-* a b, small-false (a *ℤ b) (small-is ∙ t))) ∙ (rw (limit-back a ha, limit-back b hb) at k)
+
+    pub times-above : Bool·beq (ltZ (toZ w64 (ofZ w64 a)) (pos 0)) (ltZ (toZ w64 (ofZ w64 b)) (pos 0)) ≡ true → pos (2 ^ 60 + 1) ≡ clampOf (a *ℤ b)
+    unfolding clampOf
+    times-above k = rw (small-is, t, side-is true k)
+
+    pub times-below : Bool·beq (ltZ (toZ w64 (ofZ w64 a)) (pos 0)) (ltZ (toZ w64 (ofZ w64 b)) (pos 0)) ≡ false → negℤ (pos (2 ^ 60 + 1)) ≡ clampOf (a *ℤ b)
+    unfolding clampOf
+    times-below k = rw (small-is, t, side-is false k)

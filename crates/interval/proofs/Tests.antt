@@ -1,0 +1,72 @@
+-- The needs of `is_small`, `is_within`, `limited`, `lesser`, `greater` and `span`, each as it stands: the machine reads a number back from its bits. Assumes nothing.
+use mathlib.Core.Path.{_≡_, refl, sym, ap₂, _∙_}
+use mathlib.Core.Bool.{Bool, true, false, cond}
+use Prim.Native.Nat.{_<_, _^_}
+use native.Mathlib.Omega.{arith}
+use borrow.Author.Tests.{leb-true, leb-false}
+use lib.IntN.{ℤ, pos, negsuc, negℤ}
+use lib.Signed.{mag, leZ}
+use mir.Syntax.{w64}
+use mir.Val.{SFits, toZ, ofZ}
+use mir.Facts.{toZ-ofZ}
+use Rattle.integers.specs.Least.{lesserOf, greaterOf}
+use Rattle.integers.proofs.Machine.{again}
+use Rattle.interval.specs.Limit.{isSmall, isWithin, boundedOf}
+use Rattle.interval.specs.declared.Interval.{Interval}
+use Rattle.interval.specs.declared.Bounded.the-variants.{Within, Past}
+use Rattle.interval.proofs.Limit.{small-test, large-test}
+use Rattle.interval.proofs.Facts.{bounded-within, bounded-past}
+
+-- ---- is_small: the two tests are the one of the magnitude
+at-least : (x : ℤ) → leZ (negℤ (pos (2 ^ 60))) x ≡ true → leZ x (pos (2 ^ 60)) ≡ isSmall x
+unfolding isSmall
+at-least (pos n) t = refl
+at-least (negsuc n) t = sym (small-test (negsuc n) (omega (arith, leb-true)))
+
+below : (x : ℤ) → leZ (negℤ (pos (2 ^ 60))) x ≡ false → leZ (negℤ (pos (2 ^ 60))) x ≡ isSmall x
+below (pos n) t = cc
+below (negsuc n) t = t ∙ sym (large-test (negsuc n) (omega (arith, leb-false)))
+
+module _ (x : ℤ) (f : SFits w64 x) where
+  pub small-at-least : leZ (negℤ (pos (2 ^ 60))) (toZ w64 (ofZ w64 x)) ≡ true → leZ (toZ w64 (ofZ w64 x)) (pos (2 ^ 60)) ≡ isSmall x
+  small-at-least t = rw (toZ-ofZ f) (at-least x (rw (toZ-ofZ f) at t))
+
+  pub small-below : leZ (negℤ (pos (2 ^ 60))) (toZ w64 (ofZ w64 x)) ≡ false → leZ (negℤ (pos (2 ^ 60))) (toZ w64 (ofZ w64 x)) ≡ isSmall x
+  small-below t = rw (toZ-ofZ f) (below x (rw (toZ-ofZ f) at t))
+
+-- ---- is_within: b and d are what the two calls of `is_small` answered
+module _ (i : Interval) (b : Bool) (fl : SFits w64 (i .low)) (eb : b ≡ isSmall (toZ w64 (ofZ w64 (i .low)))) where
+  low-is : isSmall (i .low) ≡ b
+  low-is = rw (toZ-ofZ fl) at (sym eb)
+
+  pub within-low-past : b ≡ false → b ≡ isWithin i
+  unfolding isWithin
+  within-low-past s = rw (low-is, s)
+
+  pub within-high : (d : Bool) → SFits w64 (i .high) → d ≡ isSmall (toZ w64 (ofZ w64 (i .high))) → b ≡ true → d ≡ isWithin i
+  unfolding isWithin
+  within-high d fh ed s = rw (low-is, s) (rw (toZ-ofZ fh) at ed)
+
+-- ---- limited
+module _ (i : Interval) (b : Bool) (e : b ≡ isWithin i) where
+  pub limited-within : b ≡ true → Within i ≡ boundedOf i
+  limited-within t = sym (bounded-within i (sym e ∙ t))
+
+  pub limited-past : b ≡ false → Past ≡ boundedOf i
+  limited-past t = sym (bounded-past i (sym e ∙ t))
+
+-- ---- lesser and greater: one of two numbers, by the order of two
+module _ (a b x y : ℤ) (fa : SFits w64 a) (fb : SFits w64 b) where
+  pub chosen-first : SFits w64 x → leZ (toZ w64 (ofZ w64 a)) (toZ w64 (ofZ w64 b)) ≡ true → toZ w64 (ofZ w64 x) ≡ cond (leZ a b) x y
+  chosen-first fx t = rw (toZ-ofZ fx, rw (toZ-ofZ fa, toZ-ofZ fb) at t)
+
+  pub chosen-second : SFits w64 y → leZ (toZ w64 (ofZ w64 a)) (toZ w64 (ofZ w64 b)) ≡ false → toZ w64 (ofZ w64 y) ≡ cond (leZ a b) x y
+  chosen-second fy t = rw (toZ-ofZ fy, rw (toZ-ofZ fa, toZ-ofZ fb) at t)
+
+-- what a call of one of them answered, passed on: r is the answer, x and y were passed
+module _ (r x y a b : ℤ) (f : mag r < 2 ^ 63) (p : toZ w64 (ofZ w64 x) ≡ a) (q : toZ w64 (ofZ w64 y) ≡ b) where
+  pub lesser-told : r ≡ lesserOf (toZ w64 (ofZ w64 x)) (toZ w64 (ofZ w64 y)) → toZ w64 (ofZ w64 r) ≡ lesserOf a b
+  lesser-told e = again w64 r (lesserOf a b) (e ∙ ap₂ lesserOf p q) f
+
+  pub greater-told : r ≡ greaterOf (toZ w64 (ofZ w64 x)) (toZ w64 (ofZ w64 y)) → toZ w64 (ofZ w64 r) ≡ greaterOf a b
+  greater-told e = again w64 r (greaterOf a b) (e ∙ ap₂ greaterOf p q) f

@@ -2,4 +2,4 @@ pub mod Rows
 pub mod Walk
 pub mod Arrays
 pub mod Sorting
-pub mod Checking
+pub mod Replies

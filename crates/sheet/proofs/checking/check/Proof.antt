@@ -1,8 +1,8 @@
--- `sheet::check` meets its contract: at each return the tests that led there pick the row of the table of replies. Assumes nothing.
-use Rattle.sheet.proofs.Checking.{too-short, disagrees, other-version, bad-record, all-framed}
+-- `sheet::checking::check` meets its contract: at each return the tests that led there pick the row of the table of replies. Assumes nothing.
+use Rattle.sheet.proofs.Replies.{too-short, disagrees, other-version, bad-record, all-framed}
 use borrow.Author.Needs.{needs}
-use Rattle.sheet.proofs.check.Statement.{statement}
-use Rattle.sheet.proofs.check.Tie as tie
+use Rattle.sheet.proofs.checking.check.Statement.{statement}
+use Rattle.sheet.proofs.checking.check.Tie as tie
 
 returns : tie.Need-returns
 returns c = search (needs, too-short)

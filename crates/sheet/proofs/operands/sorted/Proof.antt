@@ -1,12 +1,12 @@
--- `sheet::sorted` meets its contract. The invariant is `Sorting`: n records are done, and the array holds their sorts. The measure is what is left to come. Assumes nothing.
+-- `sheet::operands::sorted` meets its contract. The invariant is `Sorting`: n records are done, and the array holds their sorts. The measure is what is left to come. Assumes nothing.
 use mathlib.Core.Path.{sym, refl, _∙_}
 use native.Mathlib.Omega.{arith}
 use borrow.Author.Needs.{needs}
 use borrow.Author.Tests.{not-true, not-false}
 use Rattle.sheet.proofs.Walk.{fewer-left, at-next}
 use Rattle.sheet.proofs.Sorting.{Sorting, sorting-start, unmet, sorting-next, sorted-end}
-use Rattle.sheet.proofs.sorted.Statement.{statement}
-use Rattle.sheet.proofs.sorted.Tie as tie
+use Rattle.sheet.proofs.operands.sorted.Statement.{statement}
+use Rattle.sheet.proofs.operands.sorted.Tie as tie
 
 abbrev Inv-loop : tie.InvT-loop
 Inv-loop s sorts₀ last₀ n₀ c₀ sorts last n c = Sorting s sorts last n c

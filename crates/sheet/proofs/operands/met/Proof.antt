@@ -1,8 +1,8 @@
--- `sheet::met` meets its contract. Assumes nothing.
+-- `sheet::operands::met` meets its contract. Assumes nothing.
 use mathlib.Core.Path.{sym, _∙_}
 use borrow.Author.Needs.{needs}
-use Rattle.sheet.proofs.met.Statement.{statement}
-use Rattle.sheet.proofs.met.Tie as tie
+use Rattle.sheet.proofs.operands.met.Statement.{statement}
+use Rattle.sheet.proofs.operands.met.Tie as tie
 
 suits-requires : tie.Need-suits-requires
 suits-requires c κs = search needs

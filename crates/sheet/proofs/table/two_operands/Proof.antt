@@ -1,8 +1,8 @@
--- `sheet::two_operands` meets its contract: the tests on the kind pick the row. Assumes nothing.
+-- `sheet::table::two_operands` meets its contract: the tests on the kind pick the row. Assumes nothing.
 use borrow.Author.Tests.{ne-eqb}
 use Rattle.sheet.specs.Table.{rowOf}
-use Rattle.sheet.proofs.two_operands.Statement.{statement}
-use Rattle.sheet.proofs.two_operands.Tie as tie
+use Rattle.sheet.proofs.table.two_operands.Statement.{statement}
+use Rattle.sheet.proofs.table.two_operands.Tie as tie
 
 returns : tie.Need-returns
 unfolding rowOf

@@ -1,8 +1,8 @@
--- `sheet::one_operand` meets its contract: the tests on the kind pick the row. Assumes nothing.
+-- `sheet::table::one_operand` meets its contract: the tests on the kind pick the row. Assumes nothing.
 use borrow.Author.Tests.{ne-eqb}
 use Rattle.sheet.specs.Table.{rowOf}
-use Rattle.sheet.proofs.one_operand.Statement.{statement}
-use Rattle.sheet.proofs.one_operand.Tie as tie
+use Rattle.sheet.proofs.table.one_operand.Statement.{statement}
+use Rattle.sheet.proofs.table.one_operand.Tie as tie
 
 returns : tie.Need-returns
 unfolding rowOf

@@ -1,7 +1,7 @@
--- `sheet::solid` meets its contract. Assumes nothing.
+-- `sheet::operands::solid` meets its contract. Assumes nothing.
 use borrow.Author.Needs.{needs}
-use Rattle.sheet.proofs.solid.Statement.{statement}
-use Rattle.sheet.proofs.solid.Tie as tie
+use Rattle.sheet.proofs.operands.solid.Statement.{statement}
+use Rattle.sheet.proofs.operands.solid.Tie as tie
 
 enum-told : tie.Need-enum-told
 enum-told c = search needs

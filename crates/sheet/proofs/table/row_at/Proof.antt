@@ -1,8 +1,8 @@
--- `sheet::row_at` meets its contract: the count byte says which rows can fit. Assumes nothing.
+-- `sheet::table::row_at` meets its contract: the count byte says which rows can fit. Assumes nothing.
 use Rattle.sheet.proofs.Rows.{row-none, row-one, row-two, row-constant, row-no-constant, row-unknown}
 use borrow.Author.Needs.{needs}
-use Rattle.sheet.proofs.row_at.Statement.{statement}
-use Rattle.sheet.proofs.row_at.Tie as tie
+use Rattle.sheet.proofs.table.row_at.Statement.{statement}
+use Rattle.sheet.proofs.table.row_at.Tie as tie
 
 add-no-operand : tie.Need-add-no-operand
 add-no-operand c = search needs

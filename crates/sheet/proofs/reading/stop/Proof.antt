@@ -1,11 +1,11 @@
--- `sheet::stop` meets its contract. The invariant: as many records came before as are not left to come. The measure is what is left. Assumes nothing.
+-- `sheet::reading::stop` meets its contract. The invariant: as many records came before as are not left to come. The measure is what is left. Assumes nothing.
 use mathlib.Core.Path.{sym, ap, _∙_}
 use Prim.Native.Nat.{_-_}
 use borrow.Author.Needs.{needs}
 use Rattle.sheet.specs.Table.{placeOf}
 use Rattle.sheet.proofs.Walk.{At, at-first, at-after, fewer-left, stop-is}
-use Rattle.sheet.proofs.stop.Statement.{statement}
-use Rattle.sheet.proofs.stop.Tie as tie
+use Rattle.sheet.proofs.reading.stop.Statement.{statement}
+use Rattle.sheet.proofs.reading.stop.Tie as tie
 
 abbrev Inv-loop : tie.InvT-loop
 Inv-loop s c₀ c = At s c (256 - c .left)

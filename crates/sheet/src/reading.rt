@@ -1,0 +1,69 @@
+// Reading records one after the other.
+
+ghost use mathlib.Core.Path.{_≡_};
+ghost use Rattle.sheet.specs.Table.{readAt, placeOf};
+ghost use Rattle.sheet.specs.Records.{stopOf};
+use crate::Cursor;
+use crate::Read;
+use crate::Row;
+use crate::table;
+
+impl Cursor {
+    // At the first record of a sheet.
+    pub fn start() -> Cursor
+        ensures { λ r. ⌜ r ≡ record { at = 3; left = 256 } ⌝ }
+    {
+        Cursor { at: 3, left: 256 }
+    }
+
+    pub fn read(self, s: &[u8]) -> Read
+        ensures { λ r. ⌜ r ≡ readAt (now (s .entry)) self ⌝ }
+    {
+        let at = self.at;
+        let left = self.left;
+        if left == 0 {
+            return Read::Refused(at);
+        }
+        if s.len() <= at {
+            return Read::Refused(at);
+        }
+        let size = s[at] as usize;
+        if s.len() - at <= size {
+            return Read::Refused(at);
+        }
+        let Row::Known(r) = table::row_at(s, at, size) else {
+            return Read::Refused(at);
+        };
+        let next = Cursor {
+            at: at + 1 + size,
+            left: left - 1,
+        };
+        Read::Found(r, next)
+    }
+}
+
+impl Read {
+    // Where reading stands after this: past the record, or at the one that is refused.
+    fn place(self) -> usize
+        ensures { λ r. ⌜ r ≡ placeOf self ⌝ }
+    {
+        match self {
+            Read::Found(_, next) => next.at,
+            Read::Refused(at) => at,
+        }
+    }
+}
+
+// Where reading the records stops: at the end of the sheet, or at the first record that is refused.
+pub fn stop(s: &[u8]) -> usize
+    ensures { λ r. ⌜ r ≡ stopOf (now (s .entry)) ⌝ }
+{
+    let mut c = Cursor::start();
+    loop {
+        let r = c.read(s);
+        let Read::Found(_, next) = r else {
+            return r.place();
+        };
+        c = next;
+    }
+}

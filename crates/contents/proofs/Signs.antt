@@ -10,11 +10,16 @@ use lib.Signed.{ltZ, nonNeg}
 use mir.Syntax.{w32, w64}
 use mir.Val.{Fits, SFits, toZ, ofZ}
 use mir.Facts.{toZ-ofZ}
+use Rattle.integers.proofs.Order.{not-negative}
+
+-- a number of 32 bits and its magnitude
+small : (m : ℤ) → SFits w32 m → natAbs m ≤ 2 ^ 31
+small (pos k) g = omega (arith, g .sfits)
+small (negsuc k) g = omega (arith, g .sfits)
 
 -- a number from 0 on, cast to 64 bits
 plain : (n : ℤ) → SFits w32 n → ltZ n (pos 0) ≡ false → T (nonNeg n) × Fits w64 (natAbs n)
-plain (pos k) f t = (tt, record { fits = omega (arith, f .sfits) })
-plain (negsuc k) f t = let z : _≡_ {A = ℕ} 0 1 = cc in absurd (omega arith)
+plain n f t = (not-negative n t, record { fits = omega (arith, small n f) })
 
 pub cast-plain : (n : ℤ) → SFits w32 n → ltZ (toZ w32 (ofZ w32 n)) (pos 0) ≡ false → T (nonNeg (toZ w32 (ofZ w32 n))) × Fits w64 (natAbs (toZ w32 (ofZ w32 n)))
 cast-plain n f t = rw (toZ-ofZ f) (plain n f (rw (toZ-ofZ f) at t))
@@ -36,10 +41,6 @@ module _ (n : ℤ) (f : SFits w32 n) (t : ltZ (toZ w32 (ofZ w32 n)) (pos 0) ≡ 
 
   pub cast-less : T (nonNeg (toZ w32 (ofZ w32 (negsuc 0 -ℤ toZ w32 (ofZ w32 n))))) × Fits w64 (natAbs (toZ w32 (ofZ w32 (negsuc 0 -ℤ toZ w32 (ofZ w32 n)))))
   cast-less = rw (toZ-ofZ f, toZ-ofZ (less .1)) (plain (negsuc 0 -ℤ n) (less .1) (less .0))
-
-  small : (m : ℤ) → SFits w32 m → natAbs m ≤ 2 ^ 31
-  small (pos k) g = omega (arith, g .sfits)
-  small (negsuc k) g = omega (arith, g .sfits)
 
   pub more-fits : Fits w64 (natAbs (toZ w32 (ofZ w32 (negsuc 0 -ℤ toZ w32 (ofZ w32 n)))) + 1)
   more-fits = rw (toZ-ofZ f, toZ-ofZ (less .1)) (record { fits = omega (arith, small (negsuc 0 -ℤ n) (less .1)) })

@@ -4,10 +4,10 @@ use mathlib.Core.Bool.{Bool, true, false, true≢false}
 use Prim.Native.Nat.{ℕ, zero, suc, _*_, _<_}
 use native.Mathlib.Nat.{mul-le-mul-right, mul-pos}
 use native.Mathlib.Omega.{arith}
-use borrow.Author.Tests.{leb-false}
+use borrow.Author.Tests.{leb-false, ltb-true}
 use lib.Dec.{T}
-use lib.IntN.{ℤ, pos, negsuc, _+ℤ_, _-ℤ_, _*ℤ_, *ℤ-comm, zero-*ℤ}
-use lib.Signed.{leZ, ltZ, _≤ℤ_, _<ℤ_, clashℤ}
+use lib.IntN.{ℤ, pos, negsuc, negℤ, _+ℤ_, _-ℤ_, _*ℤ_, *ℤ-comm, zero-*ℤ}
+use lib.Signed.{leZ, ltZ, nonNeg, _≤ℤ_, _<ℤ_, clashℤ}
 use Rattle.integers.proofs.Naturals.{ints, ≤-in, ≤-out, <-in, <-out, +-is, minus-is, *-is}
 use Rattle.integers.proofs.Ring.{*-assoc}
 
@@ -50,6 +50,15 @@ le-test a b h = T-true (leZ a b) (h .le)
 
 pub gt-test : (a b : ℤ) → b <ℤ a → leZ a b ≡ false
 gt-test a b h = by-test (leZ a b) (λ t. clashℤ h (leZ-true a b t)) (λ t. t)
+
+-- the sign, as a cast to an unsigned number asks it
+pub negative : (a : ℤ) → ltZ a (pos 0) ≡ true → T (nonNeg (negℤ a))
+negative (pos n) t = let z : ⊥ = omega (arith, ltb-true) in absurd z
+negative (negsuc n) t = tt
+
+pub not-negative : (a : ℤ) → ltZ a (pos 0) ≡ false → T (nonNeg a)
+not-negative (pos n) t = tt
+not-negative (negsuc n) t = absurd (true≢false t)
 
 -- ---- sums, differences and products
 pub +-mono : (a b c d : ℤ) → a ≤ℤ b → c ≤ℤ d → (a +ℤ c) ≤ℤ (b +ℤ d)

@@ -11,20 +11,12 @@ use lib.Signed.{ltZ, nonNeg}
 use mir.Syntax.{w64}
 use mir.Val.{SFits, Fits, toZ, ofZ}
 use Rattle.integers.proofs.Naturals.{abs-*, abs-neg}
-use Rattle.integers.proofs.Order.{by-test}
+use Rattle.integers.proofs.Order.{by-test, negative, not-negative}
 use Rattle.integers.proofs.Machine.{fits, result-fits, result-back}
 use Rattle.interval.specs.Limit.{isSmall, clampOf}
 use Rattle.interval.proofs.Limit.{small-true, small-false, limit-fits, limit-back, difference-fits, difference-back, clamp-same}
 
 -- ---- magnitude
-negative : (a : ℤ) → ltZ a (pos 0) ≡ true → T (nonNeg (negℤ a))
-negative (pos n) t = let z : ⊥ = omega (arith, ltb-true) in absurd z
-negative (negsuc n) t = tt
-
-not-negative : (a : ℤ) → ltZ a (pos 0) ≡ false → T (nonNeg a)
-not-negative (pos n) t = tt
-not-negative (negsuc n) t = let z : _≡_ {A = ℕ} 0 1 = cc in omega arith
-
 module _ (a : ℤ) (h : natAbs a ≤ 2 ^ 60) where
   pub negated-fits : SFits w64 (pos 0 -ℤ toZ w64 (ofZ w64 a))
   negated-fits = difference-fits (pos 0) a (omega arith) h

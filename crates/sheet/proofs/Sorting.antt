@@ -2,13 +2,12 @@
 use mathlib.Core.Path.{_≡_, refl, sym, ap, _∙_}
 use mathlib.Core.Bool.{Bool, true, false, cond}
 use mathlib.Core.List.{List, [], _∷_, _++_, map}
-use Prim.Native.Nat.{ℕ, zero, suc, _+_, _<_, _≤_}
+use Prim.Native.Nat.{ℕ, zero, suc, _+_, _<_}
 use native.Mathlib.Numerals.{add-one}
 use native.Mathlib.Omega.{arith}
 use borrow.Author.Tests.{lt-ltb, le-ltb}
-use lib.Dec.{ltb}
-use lib.ListN.{length, getD, take, drop, set, replicate, length-set, length-map, length-append, length-take}
-use lib.Seq.{take-suc, take-length, take-all, drop-length}
+use lib.ListN.{length, getD, take, drop, set, replicate, length-set, length-map, length-take}
+use lib.Seq.{take-suc, take-all, drop-length}
 use Rattle.sheet.specs.declared.Record.{Record}
 use Rattle.sheet.specs.declared.Record.the-variants.{X}
 use Rattle.sheet.specs.declared.Sort.{Sort}
@@ -18,7 +17,7 @@ use Rattle.sheet.specs.declared.Read.the-variants.{Found, Refused}
 use Rattle.sheet.specs.declared.Refusal.the-variants.{Operand}
 use Rattle.sheet.specs.declared.Checked.the-variants.{Refused as Bad}
 use Rattle.sheet.specs.Table.{readAt}
-use Rattle.sheet.specs.Records.{recordsOf}
+use Rattle.sheet.specs.Records.{start, recordsOf}
 use Rattle.sheet.specs.Operands.{sortOf, askedOf, firstOf, secondOf, areMet, isMet, firstUnmet, lastSort}
 use Rattle.sheet.specs.Check.{solidOf, sortedOf}
 use Rattle.sheet.proofs.Walk.{At, at-start, here, found-number, found-record, rest-is, at-next, all-read}
@@ -50,7 +49,7 @@ neither zero a = refl
 neither (suc n) zero = refl
 neither (suc n) (suc a) = neither n a
 
-pub sorting-start : (s : List ℕ) (c : Cursor) → c ≡ record { at = 3; left = 256 } → Sorting s (replicate 256 Neither) Neither 0 c
+pub sorting-start : (s : List ℕ) (c : Cursor) → c ≡ start → Sorting s (replicate 256 Neither) Neither 0 c
 unfolding lastSort
 sorting-start s c e =
     record {

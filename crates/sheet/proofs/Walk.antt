@@ -14,7 +14,7 @@ use Rattle.sheet.specs.declared.Cursor.{Cursor}
 use Rattle.sheet.specs.declared.Read.{Read}
 use Rattle.sheet.specs.declared.Read.the-variants.{Found, Refused}
 use Rattle.sheet.specs.Table.{rowAt, onRow, readAt}
-use Rattle.sheet.specs.Records.{Reading, first, onRead, readFrom, reading, recordsOf, stopOf}
+use Rattle.sheet.specs.Records.{Reading, first, onRead, readFrom, start, reading, recordsOf, stopOf}
 
 -- ---- one read
 clash : {x : ℕ} {r : Record} {next : Cursor} → Refused x ≡ Found r next → ⊥
@@ -57,7 +57,7 @@ pub record At (s : List ℕ) (c : Cursor) (n : ℕ) : Type 0 where
   pub rest : readFrom (c .left) s (c .at) .records ≡ drop n (recordsOf s)
   pub stops : readFrom (c .left) s (c .at) .stop ≡ stopOf s
 
-pub at-start : (s : List ℕ) → At s (record { at = 3; left = 256 }) 0
+pub at-start : (s : List ℕ) → At s start 0
 unfolding reading
 at-start s = record { total = refl; among = omega arith; rest = refl; stops = refl }
 
@@ -100,7 +100,7 @@ module _ (s : List ℕ) (c : Cursor) (n : ℕ) (w : At s c n) where
     stop-is = ap (λ (k : Reading). k .stop) (sym (read-stop s (c .at) (c .left) e)) ∙ w .stops
 
 -- ---- the walk of a loop that does not count
-pub at-first : (s : List ℕ) (c : Cursor) → c ≡ record { at = 3; left = 256 } → At s c (256 - c .left)
+pub at-first : (s : List ℕ) (c : Cursor) → c ≡ start → At s c (256 - c .left)
 at-first s c e = rw e (at-start s)
 
 pub at-after : (s : List ℕ) (c : Cursor) → At s c (256 - c .left) → (r : Record) (next : Cursor) → readAt s c ≡ Found r next → At s next (256 - next .left)

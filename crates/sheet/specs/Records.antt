@@ -25,8 +25,11 @@ readFrom zero s at = record { records = []; stop = at }
 readFrom (suc left) s at = onRead (readAt s (record { at = at; left = suc left })) (λ next. readFrom left s (next .at))
 
 -- Records, numbered from 0, at most 256, from byte 3 on.
+abbrev pub start : Cursor
+start = record { at = 3; left = 256 }
+
 unfoldable pub reading : List ℕ → Reading
-reading s = readFrom 256 s 3
+reading s = readFrom (start .left) s (start .at)
 
 abbrev pub recordsOf : List ℕ → List Record
 recordsOf s = reading s .records

@@ -2,7 +2,7 @@
 
 ghost use mathlib.Core.Path.{_≡_};
 ghost use Rattle.sheet.specs.Table.{readAt, placeOf};
-ghost use Rattle.sheet.specs.Records.{stopOf};
+ghost use Rattle.sheet.specs.Records.{start, stopOf};
 use crate::Cursor;
 use crate::Read;
 use crate::Row;
@@ -11,7 +11,7 @@ use crate::table;
 impl Cursor {
     // At the first record of a sheet.
     pub fn start() -> Cursor
-        ensures { λ r. ⌜ r ≡ record { at = 3; left = 256 } ⌝ }
+        ensures { λ r. ⌜ r ≡ start ⌝ }
     {
         Cursor { at: 3, left: 256 }
     }

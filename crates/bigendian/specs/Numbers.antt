@@ -1,7 +1,7 @@
 -- Numbers of several bytes are big-endian; signed ones are two's complement. Assumes nothing: these are definitions.
-use Prim.Native.Nat.{ℕ, zero, suc, _+_, _*_, _-_, _^_}
+use Prim.Native.Nat.{ℕ, zero, suc, _+_, _*_, _-_, _/_, _%_, _^_}
 use mathlib.Core.Bool.{cond}
-use mathlib.Core.List.{List}
+use mathlib.Core.List.{List, [], _∷_, _++_}
 use lib.Dec.{ltb}
 use lib.IntN.{ℤ, pos, negsuc}
 use lib.ListN.{getD}
@@ -18,3 +18,14 @@ signed32 u = cond (ltb u (2 ^ 31)) (pos u) (negsuc (2 ^ 32 - suc u))
 -- the 32-bit signed number of the four bytes of s from `at` on
 abbrev pub signedAt : List ℕ → ℕ → ℤ
 signedAt s at = signed32 (unsignedAt 4 s at)
+
+-- ---- the same, written
+-- the n bytes of the number u, the first byte counting most
+unfoldable pub bytesOf : ℕ → ℕ → List ℕ
+bytesOf zero u = []
+bytesOf (suc n) u = bytesOf n (u / 256) ++ u % 256 ∷ []
+
+-- the number whose 32 bits are those of a signed one: the number itself, or for a negative one 2^32 more
+unfoldable pub unsigned32 : ℤ → ℕ
+unsigned32 (pos n) = n
+unsigned32 (negsuc n) = 2 ^ 32 - suc n

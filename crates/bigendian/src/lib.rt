@@ -3,7 +3,8 @@
 ghost use mathlib.Core.Path.{_≡_};
 ghost use Prim.Native.Nat.{_+_, _≤_};
 ghost use lib.ListN.{length};
-ghost use Rattle.bigendian.specs.Numbers.{unsignedAt, signed32, signedAt};
+ghost use lib.Seq.{sets};
+ghost use Rattle.bigendian.specs.Numbers.{unsignedAt, signed32, signedAt, bytesOf, unsigned32};
 
 // The number of the two bytes of s from `at` on.
 pub fn u16_at(s: &[u8], at: usize) -> u16
@@ -41,4 +42,33 @@ pub fn i32_at(s: &[u8], at: usize) -> i32
     ensures { λ r. ⌜ r ≡ signedAt (now (s .entry)) at ⌝ }
 {
     signed(u32_at(s, at))
+}
+
+// Writes the four bytes of n from `at` on.
+pub fn put_u32(out: &mut [u8], at: usize, n: u32)
+    requires { ⌜ at + 4 ≤ length (now out) ⌝ }
+    ensures { λ _. ⌜ now (out .exit) ≡ sets (now (out .entry)) at (bytesOf 4 n) ⌝ }
+{
+    out[at] = (n / 16777216) as u8;
+    out[at + 1] = (n / 65536 % 256) as u8;
+    out[at + 2] = (n / 256 % 256) as u8;
+    out[at + 3] = (n % 256) as u8;
+}
+
+// The number whose bits are those of n.
+fn unsigned(n: i32) -> u32
+    ensures { λ r. ⌜ r ≡ unsigned32 n ⌝ }
+{
+    if n < 0 {
+        return 4294967295 - (-1 - n) as u32;
+    }
+    n as u32
+}
+
+// Writes the four bytes of a signed number from `at` on.
+pub fn put_i32(out: &mut [u8], at: usize, n: i32)
+    requires { ⌜ at + 4 ≤ length (now out) ⌝ }
+    ensures { λ _. ⌜ now (out .exit) ≡ sets (now (out .entry)) at (bytesOf 4 (unsigned32 n)) ⌝ }
+{
+    put_u32(out, at, unsigned(n));
 }

@@ -97,12 +97,10 @@ fn number(n: u64) {
 
 // A space and a number with its sign.
 fn whole(n: i32) {
-    if n < 0 {
-        let _sign = io::write_all(1, b" -");
-        let _number = io::print_decimal(1, (-1 - n) as u64 + 1);
-        return;
-    }
-    number(n as u64);
+    let mut out = [0u8; 20];
+    let end = text::put_number(&mut out, 0, n as i64);
+    let _space = io::write_all(1, b" ");
+    let _number = io::write_all(1, &out[..end]);
 }
 
 fn end() {

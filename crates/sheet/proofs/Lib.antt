@@ -3,3 +3,5 @@ pub mod Walk
 pub mod Arrays
 pub mod Sorting
 pub mod Replies
+pub mod Along
+pub mod ByKind

@@ -4,6 +4,7 @@ use mathlib.Core.Bool.{Bool, true, false, cond}
 use mathlib.Core.List.{List, [], _∷_}
 use Prim.Native.Nat.{ℕ, zero, suc, _+_, _-_, _<_, _≤_}
 use native.Mathlib.Omega.{arith}
+use borrow.Author.Tests.{leb-false}
 use lib.Dec.{eqb, leb}
 use lib.ListN.{length, getD, drop, length-drop}
 use lib.Seq.{getD-drop, drop-drop}
@@ -13,7 +14,7 @@ use Rattle.sheet.specs.declared.Row.the-variants.{Known, Unknown}
 use Rattle.sheet.specs.declared.Cursor.{Cursor}
 use Rattle.sheet.specs.declared.Read.{Read}
 use Rattle.sheet.specs.declared.Read.the-variants.{Found, Refused}
-use Rattle.sheet.specs.Table.{rowAt, onRow, readAt}
+use Rattle.sheet.specs.Table.{rowAt, onRow, readAt, isKnown, Stands}
 use Rattle.sheet.specs.Records.{Reading, first, onRead, readFrom, start, reading, recordsOf, stopOf}
 
 -- ---- one read
@@ -24,17 +25,29 @@ past : (b : Bool) (x : ℕ) (rest : Read) {r : Record} {next : Cursor} → cond 
 past true x rest e = absurd (clash e)
 past false x rest e = e
 
-known : (row : Row) (to : Cursor) (x : ℕ) {r : Record} {next : Cursor} → onRow row to x ≡ Found r next → next ≡ to
-known (Known what) to x e = cc
+known : (row : Row) (to : Cursor) (x : ℕ) {r : Record} {next : Cursor} → onRow row to x ≡ Found r next → (row ≡ Known r) × (next ≡ to)
+known (Known what) to x e = (cc, cc)
 known Unknown to x e = absurd (clash e)
 
--- a record that was read leaves one record fewer to come
-fewer : (s : List ℕ) (c : Cursor) {r : Record} {next : Cursor} → readAt s c ≡ Found r next → next .left ≡ c .left - 1
-unfolding readAt
-fewer s c e =
-    let a = past (eqb (c .left) 0) (c .at) _ e in
-    let b = past (leb (length s) (c .at + getD s (c .at) 0)) (c .at) _ a in
-    ap (λ (k : Cursor). k .left) (known (rowAt s (c .at)) _ (c .at) b)
+over : (b : Bool) (x : ℕ) (rest : Read) {r : Record} {next : Cursor} → cond b (Refused x) rest ≡ Found r next → b ≡ false
+over true x rest e = absurd (clash e)
+over false x rest e = refl
+
+module _ (s : List ℕ) (c : Cursor) {r : Record} {next : Cursor} (e : readAt s c ≡ Found r next) where
+  row : cond (leb (length s) (c .at + getD s (c .at) 0)) (Refused (c .at)) (onRow (rowAt s (c .at)) (record { at = c .at + 1 + getD s (c .at) 0; left = c .left - 1 }) (c .at)) ≡ Found r next
+  unfolding readAt
+  row = past (eqb (c .left) 0) (c .at) _ e
+
+  fitting : (rowAt s (c .at) ≡ Known r) × (next ≡ record { at = c .at + 1 + getD s (c .at) 0; left = c .left - 1 })
+  fitting = known (rowAt s (c .at)) _ (c .at) (past (leb (length s) (c .at + getD s (c .at) 0)) (c .at) _ row)
+
+  -- a record that was read leaves one record fewer to come
+  fewer : next .left ≡ c .left - 1
+  fewer = ap (λ (k : Cursor). k .left) (fitting .1)
+
+  -- and it stands there
+  found-stands : Stands s (c .at)
+  found-stands = record { inside = leb-false (length s) (c .at + getD s (c .at) 0) (over _ (c .at) _ row); known = ap isKnown (fitting .0) }
 
 pub read-more : (s : List ℕ) (at left : ℕ) {r : Record} {next : Cursor} → readAt s (record { at = at; left = left }) ≡ Found r next
     → (0 < left) × (readFrom left s at ≡ first r (readFrom (next .left) s (next .at)))
@@ -109,3 +122,41 @@ at-after s c w r next e =
     let t = at-next s c n w r next e in
     let z : n + 1 ≡ 256 - next .left = omega (arith, t .total) in
     rw z at t
+
+-- ---- the walk of a loop that knows how many records there are: at each place one stands
+-- n records came before the place `at`
+abbrev pub Before : List ℕ → ℕ → ℕ → Type 0
+Before s at n = At s (record { at = at; left = 256 - n }) n
+
+pub before-first : (s : List ℕ) → Before s 3 0
+before-first s = at-start s
+
+module _ (s : List ℕ) (at n : ℕ) (w : Before s at n) (more : n < length (recordsOf s)) where
+  abbrev here-at : Cursor
+  here-at = record { at = at; left = 256 - n }
+
+  -- what is said of a record that can be read there is said
+  read-there : {A : Type 0} → ((r : Record) (next : Cursor) → readAt s here-at ≡ Found r next → A) → A
+  read-there {A} f = by (readAt s here-at) refl
+    where
+      by : (k : Read) → readAt s here-at ≡ k → A
+      by (Found r next) e = f r next e
+      by (Refused x) e = let z : ⊥ = omega (arith, all-read s here-at n w x e) in absurd z
+
+  pub stands : Stands s at
+  stands = read-there (λ r next e. found-stands s here-at e)
+
+  module _ (r : Record) (e : rowAt s at ≡ Known r) where
+    same : (q : Record) (next : Cursor) → readAt s here-at ≡ Found q next → q ≡ r
+    same q next f = let k = fitting s here-at f .0 in cc
+
+    pub stands-record : (d : Record) → getD (recordsOf s) n d ≡ r
+    stands-record d = read-there (λ q next f. found-record s here-at n w q next f d ∙ same q next f)
+
+    pub before-next : Before s (at + 1 + getD s at 0) (n + 1)
+    before-next =
+        read-there (λ q next f.
+        let t = at-next s here-at n w q next f in
+        let m : 256 - n - 1 ≡ 256 - (n + 1) = omega arith in
+        let g : next ≡ record { at = at + 1 + getD s at 0; left = 256 - (n + 1) } = fitting s here-at f .1 ∙ ap (λ (l : ℕ). record { at = at + 1 + getD s at 0; left = l }) m in
+        rw g at t)

@@ -2,3 +2,4 @@ pub mod Table
 pub mod Records
 pub mod Operands
 pub mod Check
+pub mod Along

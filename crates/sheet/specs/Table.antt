@@ -1,6 +1,7 @@
 -- The zone sheet's table of kinds, and the record at a place of a sheet. Assumes nothing: these are definitions.
-use Prim.Native.Nat.{ℕ, _+_, _-_}
-use mathlib.Core.Bool.{cond, _&&_}
+use mathlib.Core.Path.{_≡_}
+use Prim.Native.Nat.{ℕ, _+_, _-_, _<_}
+use mathlib.Core.Bool.{Bool, true, false, cond, _&&_}
 use mathlib.Core.List.{List}
 use lib.Dec.{eqb, leb}
 use lib.IntN.{ℤ}
@@ -50,3 +51,12 @@ readAt s c =
 abbrev pub placeOf : Read → ℕ
 placeOf (Found r next) = next .at
 placeOf (Refused at) = at
+
+-- a record stands at a place: it runs over no end, and a row fits it
+abbrev pub isKnown : Row → Bool
+isKnown (Known r) = true
+isKnown Unknown = false
+
+pub record Stands (s : List ℕ) (at : ℕ) : Type 0 where
+  pub inside : at + getD s at 0 < length s
+  pub known : isKnown (rowAt s at) ≡ true

@@ -1,0 +1,191 @@
+-- The bounds and states of all records over a cube, as a loop fills them: so many records are done, and three arrays hold what is known of each. Assumes nothing.
+use mathlib.Core.Path.{_≡_, refl, sym, ap, _∙_}
+use mathlib.Core.Bool.{false}
+use mathlib.Core.List.{List, [], _∷_, _++_, append-assoc}
+use Prim.Native.Nat.{ℕ, zero, suc, _+_, _≤_, _<_}
+use native.Mathlib.Numerals.{add-one}
+use native.Mathlib.Omega.{arith}
+use borrow.Author.Tests.{lt-ltb, le-ltb}
+use lib.IntN.{pos}
+use mir.Syntax.{w64}
+use mir.Val.{toZ, ofZ}
+use lib.ListN.{length, getD, take, drop, set, replicate, length-set, length-take, take-append-drop}
+use lib.Seq.{take-suc, take-all}
+use Rattle.interval.specs.declared.Interval.{Interval}
+use Rattle.interval.specs.declared.Bounded.{Bounded}
+use Rattle.interval.specs.declared.Bounded.the-variants.{Within, Past as Over}
+use Rattle.interval.specs.Rules.{from}
+use Rattle.interval.specs.Limit.{SmallEnds, isWithin, boundedOf}
+use Rattle.interval.proofs.Limit.{limit-back}
+use Rattle.interval.proofs.Facts.{ends-within, past-tells, within-is, within-small}
+use Rattle.sheet.specs.declared.Record.{Record}
+use Rattle.sheet.specs.declared.Record.the-variants.{X}
+use Rattle.sheet.specs.declared.Row.the-variants.{Known as Fits}
+use Rattle.sheet.specs.Table.{rowAt}
+use Rattle.sheet.specs.Records.{recordsOf}
+use Rattle.sheet.specs.Operands.{firstOf, secondOf}
+use Rattle.sheet.specs.Along.{along, onward}
+use Rattle.sheet.proofs.Along.{along-more, length-along, take-along}
+use Rattle.sheet.proofs.Walk.{Before, before-first, stands-record, before-next}
+use Rattle.sheet.proofs.Arrays.{Reads, reads-more}
+use Rattle.cube.specs.declared.Cube.{Cube}
+use Rattle.colour.specs.declared.State.{State}
+use Rattle.colour.specs.declared.State.the-variants.{Mixed}
+use Rattle.colour.specs.declared.Bounds.{Bounds}
+use Rattle.colour.specs.declared.Judged.the-variants.{Known, Past}
+use Rattle.colour.specs.Bounds.{none, boundsOf}
+use Rattle.colour.specs.States.{stateOf}
+use Rattle.colour.specs.Entries.{Entry, blank, entryOf, entries, beforePast, judgedOf}
+use Rattle.colour.proofs.Arms.{zero-small}
+
+-- ---- the first record past the limit
+-- all of these keep it
+abbrev Keep : List Entry → Type 0
+Keep es = (a : ℕ) → SmallEnds (getD es a blank .bounds)
+
+-- where those before an entry keep the limit and it does not, it is the first
+first-past : (es : List Entry) (e : Entry) (after : List Entry) → Keep es → isWithin (e .bounds) ≡ false → beforePast (es ++ e ∷ after) ≡ length es
+unfolding beforePast
+first-past [] e after k p = rw p
+first-past (x ∷ es) e after k p = rw (ends-within (x .bounds) (k 0)) (ap suc (first-past es e after (λ a. k (suc a)) p))
+
+none-past : (es : List Entry) → Keep es → beforePast es ≡ length es
+unfolding beforePast
+none-past [] k = refl
+none-past (x ∷ es) k = rw (ends-within (x .bounds) (k 0)) (ap suc (none-past es (λ a. k (suc a))))
+
+keep-more : (es : List Entry) (e : Entry) → Keep es → SmallEnds (e .bounds) → Keep (es ++ e ∷ [])
+keep-more [] e k h zero = h
+keep-more [] e k h (suc a) = k (suc a)
+keep-more (x ∷ es) e k h zero = k zero
+keep-more (x ∷ es) e k h (suc a) = keep-more es e (λ b. k (suc b)) h a
+
+-- ---- the loop
+-- the entries of the first n records
+abbrev done : List ℕ → Cube → ℕ → List Entry
+done s q n = entries q (take n (recordsOf s))
+
+pub record Filling (s : List ℕ) (q : Cube) (b : Bounds) (states : List State) (at : ℕ) : Type 0 where
+  pub walk : Before s at (b .count)
+  pub low-long : length (b .low) ≡ 256
+  pub high-long : length (b .high) ≡ 256
+  pub states-long : length states ≡ 256
+  pub lows : Reads (λ e. e .bounds .low) blank (b .low) (done s q (b .count))
+  pub highs : Reads (λ e. e .bounds .high) blank (b .high) (done s q (b .count))
+  pub colours : Reads (λ e. e .state) blank states (done s q (b .count))
+  pub keep : Keep (done s q (b .count))
+
+same : {A : Type 0} (x : A) (n a : ℕ) → getD (replicate n x) a x ≡ x
+same x zero a = refl
+same x (suc n) zero = refl
+same x (suc n) (suc a) = same x n a
+
+pub filling-start : (s : List ℕ) (q : Cube) → Filling s q (record { low = replicate 256 (pos 0); high = replicate 256 (pos 0); count = 0 }) (replicate 256 Mixed) 3
+unfolding along onward
+filling-start s q =
+    record {
+      walk = before-first s;
+      low-long = refl;
+      high-long = refl;
+      states-long = refl;
+      lows = same (pos 0) 256;
+      highs = same (pos 0) 256;
+      colours = same Mixed 256;
+      keep = λ a. zero-small;
+    }
+
+module _ (s : List ℕ) (q : Cube) (b : Bounds) (states : List State) (at : ℕ) (w : Filling s q b states at) where
+  abbrev rs : List Record
+  rs = recordsOf s
+
+  abbrev n : ℕ
+  n = b .count
+
+  -- what is read of an operand
+  abbrev known : ℕ → Entry
+  known a = getD (done s q n) a blank
+
+  abbrev read : ℕ → Interval
+  read a = from (toZ w64 (ofZ w64 (getD (b .low) a (pos 0)))) (toZ w64 (ofZ w64 (getD (b .high) a (pos 0))))
+
+  operand : (a : ℕ) → read a ≡ known a .bounds
+  operand a = rw (w .lows a, w .highs a, limit-back (known a .bounds .low) (w .keep a .low), limit-back (known a .bounds .high) (w .keep a .high))
+
+  pub operand-small : (a : ℕ) → SmallEnds (read a)
+  operand-small a = rw (operand a) (w .keep a)
+
+  -- at the end all records are done
+  pub judged-end : (which : ℕ) → length rs ≤ n → Known (getD states which Mixed) ≡ judgedOf rs q which
+  unfolding judgedOf
+  judged-end which h =
+      let t : take n rs ≡ rs = take-all n rs h in
+      let p : beforePast (entries q rs) ≡ length rs = rw t at (none-past (done s q n) (w .keep)) ∙ length-along (entryOf q) rs in
+      rw (p, le-ltb (length rs) (length rs) (omega arith)) (ap Known (w .colours which ∙ ap (λ (l : List Record). getD (entries q l) which blank .state) t))
+
+  -- one record more: r stands there, a and c are its operands
+  module _ (more : n < length rs) (r : Record) (row : rowAt s at ≡ Fits r) (a c : ℕ) (ea : a ≡ firstOf r) (ec : c ≡ secondOf r) where
+    number : getD rs n X ≡ r
+    number = stands-record s at n (w .walk) more r row X
+
+    step : take (n + 1) rs ≡ take n rs ++ r ∷ []
+    step = ap (λ (k : ℕ). take k rs) (add-one n) ∙ take-suc rs n X more ∙ ap (λ (x : Record). take n rs ++ x ∷ []) number
+
+    long : length (done s q n) ≡ n
+    long = length-along (entryOf q) (take n rs) ∙ (omega (arith, length-take n rs))
+
+    -- the entry that the definition gives r
+    abbrev this : Entry
+    this = entryOf q (done s q n) r
+
+    bounds-are : boundsOf q (read a) (read c) r ≡ this .bounds
+    unfolding entryOf
+    bounds-are = rw (operand a, operand c, ea, ec)
+
+    state-is : stateOf n (read a) (getD states a Mixed) (getD states c Mixed) r ≡ this .state
+    unfolding entryOf
+    state-is = rw (operand a, w .colours a, w .colours c, ea, ec, long)
+
+    grown : done s q (n + 1) ≡ done s q n ++ this ∷ []
+    grown = ap (entries q) step ∙ along-more (entryOf q) (take n rs) r
+
+    -- all entries: those before it, its own, and those after it
+    cut : entries q rs ≡ done s q n ++ (this ∷ drop (n + 1) (entries q rs))
+    cut =
+        sym (take-append-drop (n + 1) (entries q rs))
+        ∙ ap (λ (l : List Entry). l ++ drop (n + 1) (entries q rs)) (take-along (entryOf q) rs (n + 1) (omega arith) ∙ grown)
+        ∙ append-assoc (done s q n) (this ∷ []) (drop (n + 1) (entries q rs))
+
+    on : Before s (at + 1 + getD s at 0) (n + 1)
+    on = before-next s at n (w .walk) more r row
+
+    pub room : n < 256
+    room = omega (arith, on .total)
+
+    module _ (got : Bounded) (eb : got ≡ boundedOf (boundsOf q (read a) (read c) r)) where
+      pub judged-past : (which : ℕ) → got ≡ Over → Past n ≡ judgedOf rs q which
+      unfolding judgedOf
+      judged-past which h =
+          let f : isWithin (this .bounds) ≡ false = rw bounds-are at (past-tells got (boundsOf q (read a) (read c) r) eb h) in
+          let p : beforePast (entries q rs) ≡ n = ap beforePast cut ∙ first-past (done s q n) this (drop (n + 1) (entries q rs)) (w .keep) f ∙ long in
+          rw (p, lt-ltb n (length rs) more)
+
+      module _ (v : Interval) (ev : got ≡ Within v) where
+        exact : v ≡ this .bounds
+        exact = within-is got (boundsOf q (read a) (read c) r) eb v ev ∙ bounds-are
+
+        pub filling-next : (state : State) → state ≡ stateOf n (read a) (getD states a Mixed) (getD states c Mixed) r
+            → Filling s q (record { low = set (b .low) n (toZ w64 (ofZ w64 (v .low))); high = set (b .high) n (toZ w64 (ofZ w64 (v .high))); count = n + 1 }) (set states n state) (at + (1 + getD s at 0))
+        filling-next state h =
+            let small = within-small got (boundsOf q (read a) (read c) r) eb v ev in
+            let low = limit-back (v .low) (small .low) in
+            let high = limit-back (v .high) (small .high) in
+            record {
+              walk = let m : at + 1 + getD s at 0 ≡ at + (1 + getD s at 0) = omega arith in rw m at on;
+              low-long = length-set (b .low) n _ ∙ w .low-long;
+              high-long = length-set (b .high) n _ ∙ w .high-long;
+              states-long = length-set states n state ∙ w .states-long;
+              lows = rw grown (reads-more (λ e. e .bounds .low) blank this _ (b .low) (done s q n) n long (omega (arith, room, w .low-long)) (low ∙ ap (λ (k : Interval). k .low) exact) (w .lows));
+              highs = rw grown (reads-more (λ e. e .bounds .high) blank this _ (b .high) (done s q n) n long (omega (arith, room, w .high-long)) (high ∙ ap (λ (k : Interval). k .high) exact) (w .highs));
+              colours = rw grown (reads-more (λ e. e .state) blank this state states (done s q n) n long (omega (arith, room, w .states-long)) (h ∙ state-is) (w .colours));
+              keep = rw grown (keep-more (done s q n) this (w .keep) (rw exact at small));
+            }

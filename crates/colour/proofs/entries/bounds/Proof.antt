@@ -1,0 +1,143 @@
+-- `colour::entries::bounds` meets its contract: each kind has its own rule. Assumes nothing.
+use Rattle.colour.proofs.Coordinates.{wide-fits}
+use Rattle.colour.proofs.Arms.{zero-small, constant-arm, x-arm, y-arm, z-arm, sum-arm, difference-arm, product-arm, square-arm, no-face-arm, no-both-arm, no-either-arm, no-complement-arm}
+use borrow.Author.Needs.{needs}
+use Rattle.colour.proofs.entries.bounds.Statement.{statement}
+use Rattle.colour.proofs.entries.bounds.Tie as tie
+
+enum-known-r : tie.Need-enum-known-r
+enum-known-r c = search needs
+
+cast-t7 : tie.Need-cast-t7
+cast-t7 c = search (needs, wide-fits)
+
+cast-t8 : tie.Need-cast-t8
+cast-t8 c = search (needs, wide-fits)
+
+enum-told : tie.Need-enum-told
+enum-told c = search needs
+
+across-requires : tie.Need-across-requires
+across-requires c κs = search needs
+
+enum-told-2 : tie.Need-enum-told-2
+enum-told-2 c = search needs
+
+across-requires-2 : tie.Need-across-requires-2
+across-requires-2 c κs = search needs
+
+enum-told-3 : tie.Need-enum-told-3
+enum-told-3 c = search needs
+
+across-requires-3 : tie.Need-across-requires-3
+across-requires-3 c κs = search needs
+
+enum-told-4 : tie.Need-enum-told-4
+enum-told-4 c = search needs
+
+sum-requires : tie.Need-sum-requires
+sum-requires c κs = search needs
+
+enum-told-5 : tie.Need-enum-told-5
+enum-told-5 c = search needs
+
+difference-requires : tie.Need-difference-requires
+difference-requires c κs = search needs
+
+enum-told-6 : tie.Need-enum-told-6
+enum-told-6 c = search needs
+
+product-requires : tie.Need-product-requires
+product-requires c κs = search needs
+
+enum-told-7 : tie.Need-enum-told-7
+enum-told-7 c = search needs
+
+square-requires : tie.Need-square-requires
+square-requires c κs = search needs
+
+enum-told-8 : tie.Need-enum-told-8
+enum-told-8 c = search needs
+
+enum-told-9 : tie.Need-enum-told-9
+enum-told-9 c = search needs
+
+enum-told-10 : tie.Need-enum-told-10
+enum-told-10 c = search needs
+
+enum-told-11 : tie.Need-enum-told-11
+enum-told-11 c = search needs
+
+returns : tie.Need-returns
+returns c = search (needs, constant-arm)
+
+returns-2 : tie.Need-returns-2
+returns-2 c = search (needs, x-arm)
+
+returns-3 : tie.Need-returns-3
+returns-3 c = search (needs, y-arm)
+
+returns-4 : tie.Need-returns-4
+returns-4 c = search (needs, z-arm)
+
+returns-5 : tie.Need-returns-5
+returns-5 c = search (needs, sum-arm)
+
+returns-6 : tie.Need-returns-6
+returns-6 c = search (needs, difference-arm)
+
+returns-7 : tie.Need-returns-7
+returns-7 c = search (needs, product-arm)
+
+returns-8 : tie.Need-returns-8
+returns-8 c = search (needs, square-arm)
+
+returns-9 : tie.Need-returns-9
+returns-9 c = search (needs, no-face-arm)
+
+returns-10 : tie.Need-returns-10
+returns-10 c = search (needs, no-both-arm)
+
+returns-11 : tie.Need-returns-11
+returns-11 c = search (needs, no-either-arm)
+
+returns-12 : tie.Need-returns-12
+returns-12 c = search (needs, no-complement-arm)
+
+pub bounds-spec : {M : Type 1} → statement M
+bounds-spec =
+    tie.close
+    (tie.spec
+    enum-known-r
+    cast-t7
+    cast-t8
+    enum-told
+    across-requires
+    enum-told-2
+    across-requires-2
+    enum-told-3
+    across-requires-3
+    enum-told-4
+    sum-requires
+    enum-told-5
+    difference-requires
+    enum-told-6
+    product-requires
+    enum-told-7
+    square-requires
+    enum-told-8
+    enum-told-9
+    enum-told-10
+    enum-told-11
+    returns
+    returns-2
+    returns-3
+    returns-4
+    returns-5
+    returns-6
+    returns-7
+    returns-8
+    returns-9
+    returns-10
+    returns-11
+    returns-12)

@@ -1,0 +1,122 @@
+-- `colour::entries::state` meets its contract: each kind has its own rule. Assumes nothing.
+use Rattle.colour.proofs.Arms.{no-constant-arm, no-x-arm, no-y-arm, no-z-arm, no-sum-arm, no-difference-arm, no-product-arm, no-square-arm, face-arm, both-arm, either-arm, complement-arm}
+use borrow.Author.Needs.{needs}
+use Rattle.colour.proofs.entries.state.Statement.{statement}
+use Rattle.colour.proofs.entries.state.Tie as tie
+
+enum-told : tie.Need-enum-told
+enum-told c = search needs
+
+enum-told-2 : tie.Need-enum-told-2
+enum-told-2 c = search needs
+
+enum-told-3 : tie.Need-enum-told-3
+enum-told-3 c = search needs
+
+enum-told-4 : tie.Need-enum-told-4
+enum-told-4 c = search needs
+
+enum-told-5 : tie.Need-enum-told-5
+enum-told-5 c = search needs
+
+enum-told-6 : tie.Need-enum-told-6
+enum-told-6 c = search needs
+
+enum-told-7 : tie.Need-enum-told-7
+enum-told-7 c = search needs
+
+enum-told-8 : tie.Need-enum-told-8
+enum-told-8 c = search needs
+
+enum-told-9 : tie.Need-enum-told-9
+enum-told-9 c = search needs
+
+face-state-requires : tie.Need-face-state-requires
+face-state-requires c κs = search needs
+
+enum-told-10 : tie.Need-enum-told-10
+enum-told-10 c = search needs
+
+both-requires : tie.Need-both-requires
+both-requires c κs = search needs
+
+enum-told-11 : tie.Need-enum-told-11
+enum-told-11 c = search needs
+
+either-requires : tie.Need-either-requires
+either-requires c κs = search needs
+
+enum-told-12 : tie.Need-enum-told-12
+enum-told-12 c = search needs
+
+complement-requires : tie.Need-complement-requires
+complement-requires c κs = search needs
+
+returns : tie.Need-returns
+returns c = search (needs, no-constant-arm)
+
+returns-2 : tie.Need-returns-2
+returns-2 c = search (needs, no-x-arm)
+
+returns-3 : tie.Need-returns-3
+returns-3 c = search (needs, no-y-arm)
+
+returns-4 : tie.Need-returns-4
+returns-4 c = search (needs, no-z-arm)
+
+returns-5 : tie.Need-returns-5
+returns-5 c = search (needs, no-sum-arm)
+
+returns-6 : tie.Need-returns-6
+returns-6 c = search (needs, no-difference-arm)
+
+returns-7 : tie.Need-returns-7
+returns-7 c = search (needs, no-product-arm)
+
+returns-8 : tie.Need-returns-8
+returns-8 c = search (needs, no-square-arm)
+
+returns-9 : tie.Need-returns-9
+returns-9 c = search (needs, face-arm)
+
+returns-10 : tie.Need-returns-10
+returns-10 c = search (needs, both-arm)
+
+returns-11 : tie.Need-returns-11
+returns-11 c = search (needs, either-arm)
+
+returns-12 : tie.Need-returns-12
+returns-12 c = search (needs, complement-arm)
+
+pub state-spec : {M : Type 1} → statement M
+state-spec =
+    tie.close
+    (tie.spec
+    enum-told
+    enum-told-2
+    enum-told-3
+    enum-told-4
+    enum-told-5
+    enum-told-6
+    enum-told-7
+    enum-told-8
+    enum-told-9
+    face-state-requires
+    enum-told-10
+    both-requires
+    enum-told-11
+    either-requires
+    enum-told-12
+    complement-requires
+    returns
+    returns-2
+    returns-3
+    returns-4
+    returns-5
+    returns-6
+    returns-7
+    returns-8
+    returns-9
+    returns-10
+    returns-11
+    returns-12)

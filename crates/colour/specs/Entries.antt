@@ -1,0 +1,51 @@
+-- What is known of each record over a cube, record by record, and the limit. Assumes nothing: these are definitions.
+use Prim.Native.Nat.{ℕ, suc}
+use mathlib.Core.Bool.{cond}
+use mathlib.Core.List.{List, [], _∷_}
+use lib.Dec.{ltb}
+use lib.ListN.{length, getD}
+use Rattle.interval.specs.declared.Interval.{Interval}
+use Rattle.interval.specs.Limit.{isWithin}
+use Rattle.sheet.specs.declared.Record.{Record}
+use Rattle.sheet.specs.Operands.{firstOf, secondOf}
+use Rattle.sheet.specs.Along.{along}
+use Rattle.cube.specs.declared.Cube.{Cube}
+use Rattle.colour.specs.declared.State.{State}
+use Rattle.colour.specs.declared.State.the-variants.{Mixed}
+use Rattle.colour.specs.declared.Judged.{Judged}
+use Rattle.colour.specs.declared.Judged.the-variants.{Known, Past}
+use Rattle.colour.specs.Bounds.{none, boundsOf}
+use Rattle.colour.specs.States.{stateOf}
+
+-- a record's bounds, and its state
+pub record Entry : Type 0 where
+  pub bounds : Interval
+  pub state : State
+
+-- what stands for a record that is not there
+abbrev pub blank : Entry
+blank = record { bounds = none; state = Mixed }
+
+-- a record's entry, from the entries before it
+unfoldable pub entryOf : Cube → List Entry → Record → Entry
+entryOf q before r =
+    let first = getD before (firstOf r) blank in
+    let second = getD before (secondOf r) blank in
+    record {
+      bounds = boundsOf q (first .bounds) (second .bounds) r;
+      state = stateOf (length before) (first .bounds) (first .state) (second .state) r;
+    }
+
+-- The bounds of all records of a cube are held together.
+abbrev pub entries : Cube → List Record → List Entry
+entries q = along (entryOf q)
+
+-- how many records come before the first whose bounds pass 2^60; where none does, how many there are
+unfoldable pub beforePast : List Entry → ℕ
+beforePast [] = 0
+beforePast (e ∷ es) = cond (isWithin (e .bounds)) (suc (beforePast es)) 0
+
+-- the state of record n over a cube, or the first record whose bounds pass 2^60
+unfoldable pub judgedOf : List Record → Cube → ℕ → Judged
+judgedOf rs q n =
+    cond (ltb (beforePast (entries q rs)) (length rs)) (Past (beforePast (entries q rs))) (Known (getD (entries q rs) n blank .state))

@@ -1,0 +1,75 @@
+-- Colour of a cube: the state of one logical record, and the class and face of a state. Assumes nothing: these are definitions.
+use Prim.Native.Nat.{ℕ}
+use mathlib.Core.Bool.{Bool, true, false, cond, _||_}
+use lib.IntN.{pos}
+use lib.Signed.{leZ, ltZ}
+use Rattle.interval.specs.declared.Interval.{Interval}
+use Rattle.sheet.specs.declared.Record.{Record}
+use Rattle.sheet.specs.declared.Record.the-variants.{Constant, X, Y, Z, Sum, Difference, Product, Square, Face, Both, Either, Complement}
+use Rattle.colour.specs.declared.State.{State}
+use Rattle.colour.specs.declared.State.the-variants.{Mixed, In, Out, Single, Comp}
+
+abbrev pub isIn : State → Bool
+isIn Mixed = false
+isIn In = true
+isIn Out = false
+isIn (Single f) = false
+isIn (Comp f) = false
+
+abbrev pub isOut : State → Bool
+isOut Mixed = false
+isOut In = false
+isOut Out = true
+isOut (Single f) = false
+isOut (Comp f) = false
+
+-- face with bounds [a,b]: In if b <= 0; Out if a > 0; else Single(that face)
+unfoldable pub faceState : Interval → ℕ → State
+faceState i f = cond (leZ (i .high) (pos 0)) In (cond (ltZ (pos 0) (i .low)) Out (Single f))
+
+-- complement: In and Out change places; Single(f) and Comp(f) change places; Mixed stays
+abbrev pub complementOf : State → State
+complementOf Mixed = Mixed
+complementOf In = Out
+complementOf Out = In
+complementOf (Single f) = Comp f
+complementOf (Comp f) = Single f
+
+-- both: Out if either is Out; otherwise if one is In, the other's state; otherwise Mixed
+unfoldable pub bothOf : State → State → State
+bothOf s t = cond (isOut s || isOut t) Out (cond (isIn s) t (cond (isIn t) s Mixed))
+
+-- either: In if either is In; otherwise if one is Out, the other's state; otherwise Mixed
+unfoldable pub eitherOf : State → State → State
+eitherOf s t = cond (isIn s || isIn t) In (cond (isOut s) t (cond (isOut t) s Mixed))
+
+-- the state of record n, where i are the bounds of its first operand, s and t the states of its operands; one that is not logical says nothing
+unfoldable pub stateOf : ℕ → Interval → State → State → Record → State
+stateOf n i s t (Constant c) = Mixed
+stateOf n i s t X = Mixed
+stateOf n i s t Y = Mixed
+stateOf n i s t Z = Mixed
+stateOf n i s t (Sum a b) = Mixed
+stateOf n i s t (Difference a b) = Mixed
+stateOf n i s t (Product a b) = Mixed
+stateOf n i s t (Square a) = Mixed
+stateOf n i s t (Face a) = faceState i n
+stateOf n i s t (Both a b) = bothOf s t
+stateOf n i s t (Either a b) = eitherOf s t
+stateOf n i s t (Complement a) = complementOf s
+
+-- The solid's state gives the class: Out white 0, In black 1, Single terminal 2, Comp terminal 3, Mixed gray 4.
+abbrev pub classOf : State → ℕ
+classOf Mixed = 4
+classOf In = 1
+classOf Out = 0
+classOf (Single f) = 2
+classOf (Comp f) = 3
+
+-- face number: 0 unless class 2 or 3
+abbrev pub faceOf : State → ℕ
+faceOf Mixed = 0
+faceOf In = 0
+faceOf Out = 0
+faceOf (Single f) = f
+faceOf (Comp f) = f

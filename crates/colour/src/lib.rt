@@ -1,0 +1,30 @@
+// Colour of a cube: the bounds of all records over it, the states of the logical ones, and the class of the solid's state.
+
+mod entries;
+mod judging;
+mod states;
+
+pub use judging::judge;
+
+// What the bounds over a cube tell of a logical record: nothing, that it holds all over the cube, that it holds nowhere in it, or that it holds there
+// exactly where one face does, or where that face does not.
+pub enum State {
+    Mixed,
+    In,
+    Out,
+    Single(u8),
+    Comp(u8),
+}
+
+// The bounds of the first `count` records over a cube, held together; each place after them holds zeros.
+pub struct Bounds {
+    pub low: [i64; 256],
+    pub high: [i64; 256],
+    pub count: usize,
+}
+
+// The state of a record over a cube, or the first record whose bounds pass the limit.
+pub enum Judged {
+    Known(State),
+    Past(usize),
+}

@@ -1,0 +1,119 @@
+// The rules of states, and the class and face that a state gives a leaf.
+
+ghost use mathlib.Core.Path.{_≡_};
+ghost use Rattle.colour.specs.States.{isIn, isOut, faceState, complementOf, bothOf, eitherOf, classOf, faceOf};
+use crate::State;
+use interval::Interval;
+
+// The state of face f, whose operand has these bounds.
+pub fn face_state(bounds: Interval, f: u8) -> State
+    ensures { λ r. ⌜ r ≡ faceState bounds f ⌝ }
+{
+    if bounds.high <= 0 {
+        return State::In;
+    }
+    if 0 < bounds.low {
+        return State::Out;
+    }
+    State::Single(f)
+}
+
+impl State {
+    pub fn is_in(self) -> bool
+        ensures { λ r. ⌜ r ≡ isIn self ⌝ }
+    {
+        match self {
+            State::Mixed => false,
+            State::In => true,
+            State::Out => false,
+            State::Single(_) => false,
+            State::Comp(_) => false,
+        }
+    }
+
+    pub fn is_out(self) -> bool
+        ensures { λ r. ⌜ r ≡ isOut self ⌝ }
+    {
+        match self {
+            State::Mixed => false,
+            State::In => false,
+            State::Out => true,
+            State::Single(_) => false,
+            State::Comp(_) => false,
+        }
+    }
+
+    pub fn complement(self) -> State
+        ensures { λ r. ⌜ r ≡ complementOf self ⌝ }
+    {
+        match self {
+            State::Mixed => State::Mixed,
+            State::In => State::Out,
+            State::Out => State::In,
+            State::Single(f) => State::Comp(f),
+            State::Comp(f) => State::Single(f),
+        }
+    }
+
+    pub fn both(self, other: State) -> State
+        ensures { λ r. ⌜ r ≡ bothOf self other ⌝ }
+    {
+        if self.is_out() {
+            return State::Out;
+        }
+        if other.is_out() {
+            return State::Out;
+        }
+        if self.is_in() {
+            return other;
+        }
+        if other.is_in() {
+            return self;
+        }
+        State::Mixed
+    }
+
+    pub fn either(self, other: State) -> State
+        ensures { λ r. ⌜ r ≡ eitherOf self other ⌝ }
+    {
+        if self.is_in() {
+            return State::In;
+        }
+        if other.is_in() {
+            return State::In;
+        }
+        if self.is_out() {
+            return other;
+        }
+        if other.is_out() {
+            return self;
+        }
+        State::Mixed
+    }
+
+    // The class of a leaf.
+    pub fn class(self) -> u8
+        ensures { λ r. ⌜ r ≡ classOf self ⌝ }
+    {
+        match self {
+            State::Mixed => 4,
+            State::In => 1,
+            State::Out => 0,
+            State::Single(_) => 2,
+            State::Comp(_) => 3,
+        }
+    }
+
+    // The face that a leaf names, 0 where it names none.
+    pub fn face(self) -> u8
+        ensures { λ r. ⌜ r ≡ faceOf self ⌝ }
+    {
+        match self {
+            State::Mixed => 0,
+            State::In => 0,
+            State::Out => 0,
+            State::Single(f) => f,
+            State::Comp(f) => f,
+        }
+    }
+}

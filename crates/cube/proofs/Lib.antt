@@ -1,0 +1,4 @@
+pub mod Limits
+pub mod Planes
+pub mod Corners
+pub mod Cubes

@@ -1,0 +1,109 @@
+-- The needs of `axis_fits`, `sizes_fit`, `is_within`, `power` and `moved`, each as it stands: the machine reads a number back from its bits. Assumes nothing.
+use mathlib.Core.Path.{_≡_, sym, _∙_}
+use mathlib.Core.Bool.{Bool, true, false}
+use Prim.Native.Nat.{ℕ, suc, _+_, _*_, _%_, _≤_, _<_, _^_}
+use native.Mathlib.Omega.{arith}
+use borrow.Author.Tests.{le-leb, lt-leb}
+use lib.Dec.{leb}
+use lib.Pow.{pow-mono}
+use lib.IntN.{ℤ, pos, negsuc, natAbs, _+ℤ_}
+use lib.Signed.{mag, leZ}
+use mir.Syntax.{w32, w64}
+use mir.Val.{Fits, SFits, toZ, ofZ}
+use mir.Facts.{toZ-ofZ, toZ-pos}
+use Rattle.integers.proofs.Naturals.{abs-+}
+use Rattle.integers.proofs.Machine.{fits}
+use Rattle.cube.specs.declared.Root.{Root}
+use Rattle.cube.specs.Limits.{axisFits, sizesFit, inLimits}
+use Rattle.cube.proofs.Limits.{sizes-are}
+
+-- ---- axis_fits
+abs-most : (a : ℤ) → natAbs a ≤ suc (mag a)
+abs-most (pos a) = omega arith
+abs-most (negsuc a) = omega arith
+
+module _ (low : ℤ) (f : SFits w32 low) where
+  pub wide : SFits w64 (toZ w32 (ofZ w32 low))
+  wide = rw (toZ-ofZ f) (record { sfits = omega (arith, f .sfits) })
+
+  module _ (side : ℕ) (s : Fits w32 side) where
+    sum-fits : SFits w64 (low +ℤ pos side)
+    sum-fits = fits w64 (low +ℤ pos side) (omega (arith, f .sfits, s .fits, abs-most low, abs-+ low (pos side)))
+
+    abbrev Sum : ℤ
+    Sum = toZ w64 (ofZ w64 (toZ w32 (ofZ w32 low))) +ℤ toZ w64 side
+
+    sum-is : Sum ≡ low +ℤ pos side
+    sum-is = rw (toZ-ofZ wide, toZ-ofZ f, toZ-pos w64 {n = side} (omega (arith, s .fits)))
+
+    pub plane-fits : SFits w64 Sum
+    plane-fits = rw sum-is sum-fits
+
+    pub plane-high : leZ (negsuc 1048575) (toZ w32 (ofZ w32 low)) ≡ true → leZ (toZ w64 (ofZ w64 Sum)) (pos 1048576) ≡ axisFits low side
+    unfolding axisFits
+    plane-high t = rw (sum-is, toZ-ofZ sum-fits, rw (toZ-ofZ f) at t)
+
+  pub plane-low : (side : ℕ) → leZ (negsuc 1048575) (toZ w32 (ofZ w32 low)) ≡ false → leZ (negsuc 1048575) (toZ w32 (ofZ w32 low)) ≡ axisFits low side
+  unfolding axisFits
+  plane-low side t = t ∙ rw (rw (toZ-ofZ f) at t)
+
+-- ---- sizes_fit
+module _ (k d : ℕ) where
+  pub sizes-all : k ≤ 16 → d ≤ 10 → leb d k ≡ sizesFit k d
+  unfolding sizesFit
+  sizes-all h l = rw (le-leb k 16 h, le-leb d 10 l)
+
+  pub sizes-deep : k ≤ 16 → 10 < d → leb d 10 ≡ sizesFit k d
+  unfolding sizesFit
+  sizes-deep h l = rw (le-leb k 16 h, lt-leb d 10 l)
+
+  pub sizes-large : 16 < k → false ≡ sizesFit k d
+  unfolding sizesFit
+  sizes-large h = rw (lt-leb k 16 h)
+
+-- ---- power
+pub shift-is : (n : ℕ) → n ≤ 16 → 1 * 2 ^ n % 4294967296 ≡ 2 ^ n
+shift-is n h = omega (arith, pow-mono {i = n} {j = 16} h)
+
+-- ---- moved
+module _ (low : ℤ) (by : ℕ) (h : natAbs low + by ≤ 2 ^ 21) where
+  moved-back : toZ w32 (ofZ w32 low) +ℤ toZ w32 by ≡ low +ℤ pos by
+  moved-back = rw (toZ-ofZ (fits w32 low (omega arith)), toZ-pos w32 {n = by} (omega arith))
+
+  small : SFits w32 (low +ℤ pos by)
+  small = fits w32 (low +ℤ pos by) (omega (arith, abs-+ low (pos by)))
+
+  pub moved-fits : SFits w32 (toZ w32 (ofZ w32 low) +ℤ toZ w32 by)
+  moved-fits = rw moved-back small
+
+  pub moved-is : toZ w32 (ofZ w32 (toZ w32 (ofZ w32 low) +ℤ toZ w32 by)) ≡ low +ℤ pos by
+  moved-is = rw moved-back (toZ-ofZ small)
+
+-- ---- is_within: s, x, y and z are what the calls answered
+pub side-small : (k d : ℕ) (s : Bool) → s ≡ sizesFit k d → s ≡ true → k ≤ 16
+side-small k d s e h = sizes-are k d (sym e ∙ h) .0
+
+module _ (r : Root) (s : Bool) (es : s ≡ sizesFit (r .k) (r .d)) where
+  pub within-not : s ≡ false → false ≡ inLimits r
+  unfolding inLimits
+  within-not h = rw (← es, h)
+
+  module _ (x : Bool) (side : ℕ) (hs : s ≡ true) (ep : side ≡ 2 ^ r .k) (fx : SFits w32 (r .x)) (ex : x ≡ axisFits (toZ w32 (ofZ w32 (r .x))) side) where
+    x-is : axisFits (r .x) (2 ^ r .k) ≡ x
+    x-is = sym (rw (toZ-ofZ fx, ep) at ex)
+
+    pub within-not-x : x ≡ false → false ≡ inLimits r
+    unfolding inLimits
+    within-not-x h = rw (← es, hs, x-is, h)
+
+    module _ (y : Bool) (hx : x ≡ true) (fy : SFits w32 (r .y)) (ey : y ≡ axisFits (toZ w32 (ofZ w32 (r .y))) side) where
+      y-is : axisFits (r .y) (2 ^ r .k) ≡ y
+      y-is = sym (rw (toZ-ofZ fy, ep) at ey)
+
+      pub within-not-y : y ≡ false → y ≡ inLimits r
+      unfolding inLimits
+      within-not-y h = rw (← es, hs, x-is, hx, y-is, h)
+
+      pub within-z : (z : Bool) → y ≡ true → SFits w32 (r .z) → z ≡ axisFits (toZ w32 (ofZ w32 (r .z))) side → z ≡ inLimits r
+      unfolding inLimits
+      within-z z h fz ez = rw (← es, hs, x-is, hx, y-is, h) (rw (toZ-ofZ fz, ep) at ez)

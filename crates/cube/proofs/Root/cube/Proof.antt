@@ -1,0 +1,14 @@
+-- `cube::Root::cube` meets its contract. Assumes nothing.
+use Rattle.cube.proofs.Cubes.{root-told}
+use borrow.Author.Needs.{needs}
+use Rattle.cube.proofs.Root.cube.Statement.{statement}
+use Rattle.cube.proofs.Root.cube.Tie as tie
+
+power-requires : tie.Need-power-requires
+power-requires c κs = search needs
+
+returns : tie.Need-returns
+returns c = search (needs, root-told)
+
+pub cube-spec : {M : Type 1} → statement M
+cube-spec = tie.close (tie.spec power-requires returns)

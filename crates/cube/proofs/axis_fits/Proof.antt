@@ -1,0 +1,23 @@
+-- `cube::axis_fits` meets its contract: the high plane is added in 64 bits. Assumes nothing.
+use Rattle.cube.proofs.Planes.{wide, plane-fits, plane-high, plane-low}
+use borrow.Author.Needs.{needs}
+use Rattle.cube.proofs.axis_fits.Statement.{statement}
+use Rattle.cube.proofs.axis_fits.Tie as tie
+
+cast-result : tie.Need-cast-result
+cast-result c = search (needs, wide)
+
+cast-result-2 : tie.Need-cast-result-2
+cast-result-2 c = search needs
+
+add-result : tie.Need-add-result
+add-result c = search (needs, plane-fits)
+
+returns : tie.Need-returns
+returns c = search (needs, plane-high)
+
+returns-2 : tie.Need-returns-2
+returns-2 c = search (needs, plane-low)
+
+pub axis-fits-spec : {M : Type 1} → statement M
+axis-fits-spec = tie.close (tie.spec cast-result cast-result-2 add-result returns returns-2)

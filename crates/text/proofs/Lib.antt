@@ -1,0 +1,4 @@
+pub mod Digits
+pub mod Signs
+pub mod Storing
+pub mod Rows

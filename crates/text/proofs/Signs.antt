@@ -1,0 +1,85 @@
+-- A signed number by its magnitude, as `put_number` works it out: below 0 it is one more than -1 - n. Assumes nothing.
+use mathlib.Core.Path.{_≡_, refl, ap}
+use mathlib.Core.Bool.{true, false, true≢false}
+use mathlib.Core.List.{_∷_}
+use Prim.Native.Nat.{ℕ, suc, _+_, _-_, _≤_, _^_}
+use native.Mathlib.Omega.{arith}
+use borrow.Author.Tests.{ltb-true, le-ltb}
+use lib.Dec.{T}
+use lib.IntN.{ℤ, pos, negsuc, natAbs, _-ℤ_}
+use lib.ListN.{length}
+use lib.Signed.{ltZ, nonNeg}
+use mir.Syntax.{w32, w64}
+use mir.Val.{Fits, SFits, toZ, ofZ}
+use mir.Facts.{toZ-ofZ}
+use Rattle.integers.proofs.Order.{not-negative}
+use Rattle.text.specs.Text.{decimalOf, signedText}
+use Rattle.text.proofs.Digits.{decimal-length}
+
+small : (m : ℤ) → SFits w64 m → natAbs m ≤ 2 ^ 63
+small (pos k) g = omega (arith, g .sfits)
+small (negsuc k) g = omega (arith, g .sfits)
+
+-- ---- a number from 0 on
+plain : (n : ℤ) → SFits w64 n → ltZ n (pos 0) ≡ false → T (nonNeg n) × Fits w64 (natAbs n)
+plain n f t = (not-negative n t, record { fits = omega (arith, small n f) })
+
+no-sign : (n : ℤ) → ltZ n (pos 0) ≡ false → signedText n ≡ decimalOf (natAbs n)
+unfolding signedText
+no-sign (pos k) t = refl
+no-sign (negsuc k) t = absurd (true≢false t)
+
+module _ (n : ℤ) (f : SFits w64 n) (t : ltZ (toZ w64 (ofZ w64 n)) (pos 0) ≡ false) where
+  pub plain-cast : T (nonNeg (toZ w64 (ofZ w64 n))) × Fits w64 (natAbs (toZ w64 (ofZ w64 n)))
+  plain-cast = rw (toZ-ofZ f) (plain n f (rw (toZ-ofZ f) at t))
+
+  pub plain-text : signedText n ≡ decimalOf (natAbs (toZ w64 (ofZ w64 n)))
+  plain-text = rw (toZ-ofZ f) (no-sign n (rw (toZ-ofZ f) at t))
+
+-- ---- a number below 0: -1 - n is the magnitude less one
+-- -1 - n, as the machine works it out
+abbrev pub lessOne : ℤ → ℤ
+lessOne n = toZ w64 (ofZ w64 (negsuc 0 -ℤ toZ w64 (ofZ w64 n)))
+
+down : (k : ℕ) → negsuc 0 -ℤ negsuc k ≡ pos k
+down k = rw (le-ltb (suc k) 1 (omega arith)) (let e : suc k - 1 ≡ k = omega arith in ap pos e)
+
+record Less (n : ℤ) : Type 0 where
+  above : ltZ (negsuc 0 -ℤ n) (pos 0) ≡ false
+  fits : SFits w64 (negsuc 0 -ℤ n)
+  text : signedText n ≡ 45 ∷ decimalOf (natAbs (negsuc 0 -ℤ n) + 1)
+
+less-one : (n : ℤ) → SFits w64 n → ltZ n (pos 0) ≡ true → Less n
+unfolding signedText
+less-one (pos k) f t = let z : ⊥ = omega (arith, ltb-true k 0 t) in absurd z
+less-one (negsuc k) f t = record {
+  above = rw (down k) (le-ltb k 0 (omega arith));
+  fits = rw (down k) (record { sfits = omega (arith, f .sfits) });
+  text = rw (down k) (let e : suc k ≡ k + 1 = omega arith in rw e);
+}
+
+module _ (n : ℤ) (f : SFits w64 n) (t : ltZ (toZ w64 (ofZ w64 n)) (pos 0) ≡ true) where
+  less : Less n
+  less = less-one n f (rw (toZ-ofZ f) at t)
+
+  pub less-fits : SFits w64 (negsuc 0 -ℤ toZ w64 (ofZ w64 n))
+  less-fits = rw (toZ-ofZ f) (less .fits)
+
+  pub less-cast : T (nonNeg (lessOne n)) × Fits w64 (natAbs (lessOne n))
+  less-cast = rw (toZ-ofZ f, toZ-ofZ (less .fits)) (plain (negsuc 0 -ℤ n) (less .fits) (less .above))
+
+  pub more-fits : Fits w64 (natAbs (lessOne n) + 1)
+  more-fits = rw (toZ-ofZ f, toZ-ofZ (less .fits)) (record { fits = omega (arith, small (negsuc 0 -ℤ n) (less .fits)) })
+
+  pub less-text : signedText n ≡ 45 ∷ decimalOf (natAbs (lessOne n) + 1)
+  less-text = rw (toZ-ofZ f, toZ-ofZ (less .fits)) (less .text)
+
+-- ---- a sign and 19 digits are the most
+pub signed-length : (n : ℤ) → SFits w64 n → length (signedText n) ≤ 20
+unfolding signedText
+signed-length (pos k) f = omega (arith, decimal-length 18 k (omega (arith, f .sfits)))
+signed-length (negsuc k) f = omega (arith, decimal-length 18 (suc k) (omega (arith, f .sfits)))
+
+-- ---- a number of 32 bits, cast by a caller
+pub widened : (n : ℤ) → SFits w32 n → SFits w64 (toZ w32 (ofZ w32 n))
+widened n f = rw (toZ-ofZ f) (record { sfits = omega (arith, f .sfits) })

@@ -1,0 +1,50 @@
+// The zone map: its leaves and its bytes.
+
+use cube::Root;
+ghost use mathlib.Core.Path.{_≡_};
+ghost use Prim.Native.Nat.{_+_, _≤_, _^_};
+ghost use lib.ListN.{length};
+ghost use lib.Seq.{sets};
+ghost use Rattle.zonemap.specs.Map.{leafBytes, cornerBytes, headerOf};
+
+// A leaf by its level, its class and its face number.
+pub struct Leaf {
+    pub level: u8,
+    pub class: u8,
+    pub face: u8,
+}
+
+const VERSION: u8 = 1;
+
+// Writes the root's low corner, at bytes 5 to 16.
+fn put_corner(out: &mut [u8], root: Root)
+    requires { ⌜ 17 ≤ length (now out) ⌝ }
+    ensures { λ _. ⌜ now (out .exit) ≡ sets (now (out .entry)) 5 (cornerBytes root) ⌝ }
+{
+    bigendian::put_i32(out, 5, root.x);
+    bigendian::put_i32(out, 9, root.y);
+    bigendian::put_i32(out, 13, root.z);
+}
+
+// Writes the 19 bytes before the leaves.
+pub fn put_header(out: &mut [u8], root: Root, leaves: u32)
+    requires { ⌜ 19 ≤ length (now out) ⌝ ∗ ⌜ leaves ≤ 2 ^ 30 ⌝ }
+    ensures { λ _. ⌜ now (out .exit) ≡ sets (now (out .entry)) 0 (headerOf root leaves) ⌝ }
+{
+    bigendian::put_u32(out, 0, 15 + 3 * leaves);
+    out[4] = VERSION;
+    put_corner(out, root);
+    out[17] = root.k;
+    out[18] = root.d;
+}
+
+// Writes a leaf's three bytes from `at` on, and answers the place after them.
+pub fn put_leaf(out: &mut [u8], at: usize, leaf: Leaf) -> usize
+    requires { ⌜ at + 3 ≤ length (now out) ⌝ }
+    ensures { λ r. ⌜ (r ≡ at + 3) × (now (out .exit) ≡ sets (now (out .entry)) at (leafBytes leaf)) ⌝ }
+{
+    out[at] = leaf.level;
+    out[at + 1] = leaf.class;
+    out[at + 2] = leaf.face;
+    at + 3
+}

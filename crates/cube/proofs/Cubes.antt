@@ -27,8 +27,8 @@ low-near : (axis k side : ℕ) (low : ℤ) → natAbs low + side ≤ 2 ^ 21 → 
 low-near axis k side low h =
     omega (arith, half-most (half axis k) (side / 2) (half-below axis k), abs-+ low (pos (half axis k * (side / 2))))
 
-pub near-one : (left : ℕ) (q : Cube) → Near left q → 0 < left → Near 1 q
-near-one left q n h = record { x = n .x; y = n .y; z = n .z; deep = omega (arith, n .deep) }
+pub near-fewer : (left fewer : ℕ) (q : Cube) → Near left q → fewer ≤ left → Near fewer q
+near-fewer left fewer q n h = record { x = n .x; y = n .y; z = n .z; deep = omega (arith, n .deep) }
 
 pub child-near : (left : ℕ) (q : Cube) (k : ℕ) → Near left q → 0 < left → k < 8 → Near (left - 1) (childOf q k)
 unfolding childOf

@@ -1,0 +1,5 @@
+pub mod Tree
+pub mod Cubes
+pub mod Count
+pub mod Stores
+pub mod Outcomes

@@ -1,0 +1,128 @@
+-- The outcome of building at each test. Assumes nothing.
+use mathlib.Core.Path.{_≡_, refl, sym, ap, _∙_}
+use mathlib.Core.Bool.{Bool, true, false}
+use mathlib.Core.List.{List, [], _∷_, _++_}
+use Prim.Native.Nat.{ℕ, _+_, _*_, _^_, _≤_, _<_}
+use native.Mathlib.Nat.{zero-add}
+use native.Mathlib.Omega.{arith}
+use borrow.Author.Tests.{lt-ltb, le-ltb}
+use lib.ListN.{length}
+use lib.Seq.{sets, sets-eq, length-sets}
+use Rattle.sheet.specs.declared.Record.{Record}
+use Rattle.sheet.specs.declared.Refusal.{Refusal}
+use Rattle.sheet.specs.declared.Checked.{Checked}
+use Rattle.sheet.specs.declared.Checked.the-variants.{Good, Refused}
+use Rattle.sheet.specs.Records.{recordsOf}
+use Rattle.sheet.specs.Check.{checkOf}
+use Rattle.cube.specs.declared.Root.{Root}
+use Rattle.cube.specs.declared.Cube.{Cube}
+use Rattle.cube.specs.Limits.{inLimits}
+use Rattle.cube.specs.Cubes.{rootCube}
+use Rattle.cube.proofs.Limits.{limits-sizes}
+use Rattle.colour.specs.declared.State.{State}
+use Rattle.colour.specs.declared.Judged.{Judged}
+use Rattle.colour.specs.declared.Judged.the-variants.{Known, Past}
+use Rattle.colour.specs.Entries.{judgedOf}
+use Rattle.zonemap.specs.declared.Leaf.{Leaf}
+use Rattle.zonemap.specs.Map.{headerOf, leavesBytes, mapOf}
+use Rattle.zonemap.proofs.Bytes.{header-length, map-length, sets-append}
+use Rattle.build.specs.declared.Counted.{Counted}
+use Rattle.build.specs.declared.Counted.the-variants.{Leaves, Past as PastIn}
+use Rattle.build.specs.declared.Reply.the-variants.{Done, Sheet, Limits, OverRoot, OverSmaller, Short}
+use Rattle.build.specs.Solid.{leavesOf, pastOf, pastsOf}
+use Rattle.build.specs.Build.{Outcome, outcome, onFirst, builtMap, storedOf, solidOf, buildOf}
+use Rattle.build.specs.Counting.{countedOf}
+use Rattle.build.proofs.Tree.{Begins, begins-first}
+use Rattle.build.proofs.Cubes.{leaves-few, known-none, past-first}
+use Rattle.build.proofs.Count.{tells-past, tells-leaves}
+
+-- ---- replies 1 to 5
+pub bad-sheet : (s : List ℕ) (root : Root) (d : List ℕ) (c : Checked) (why : Refusal) → c ≡ checkOf s → c ≡ Refused why → outcome (Sheet why) d ≡ buildOf s root d
+unfolding buildOf
+bad-sheet s root d c why e h = rw (sym e ∙ h)
+
+pub good-sheet : (s : List ℕ) (root : Root) (d : List ℕ) (c : Checked) (n : ℕ) (o : Outcome) → c ≡ checkOf s → c ≡ Good n → o ≡ solidOf (recordsOf s) root d → o ≡ buildOf s root d
+unfolding buildOf
+good-sheet s root d c n o e h k = rw (sym e ∙ h) k
+
+-- ---- what the functions on the way learn
+module _ (rs : List Record) (root : Root) where
+  pub count-few : inLimits root ≡ true → (n : ℕ) → n ≡ length (leavesOf rs (root .d) (rootCube root)) → n ≤ 2 ^ 30
+  count-few within n count = rw count (leaves-few rs (root .d) (rootCube root) (limits-sizes root within .1))
+
+  module _ (q : Cube) (is : q ≡ rootCube root) where
+    pub write-room : (n : ℕ) (d d₁ : List ℕ) → n ≡ length (leavesOf rs (root .d) (rootCube root)) → 19 + 3 * n ≤ length d → d₁ ≡ sets d 0 (headerOf root n) → 19 + 3 * length (leavesOf rs (root .d) q) ≤ length d₁
+    write-room n d d₁ count room header = rw (is, ← count, header, length-sets d 0 (headerOf root n)) room
+
+    module _ (c : Counted) (e : c ≡ countedOf rs (root .d) q) where
+      counted : c ≡ countedOf rs (root .d) (rootCube root)
+      counted = e ∙ ap (countedOf rs (root .d)) is
+
+      pub counted-leaves : (n : ℕ) → c ≡ Leaves n → (pastsOf rs (root .d) (rootCube root) ≡ []) × (n ≡ length (leavesOf rs (root .d) (rootCube root)))
+      counted-leaves n h = tells-leaves rs (root .d) (rootCube root) n (sym counted ∙ h)
+
+      pub counted-over : (n : ℕ) → c ≡ PastIn n → Begins n (pastsOf rs (root .d) (rootCube root))
+      counted-over n h = tells-past rs (root .d) (rootCube root) n (sym counted ∙ h)
+
+    module _ (solid : ℕ) (last : solid + 1 ≡ length rs) (j : Judged) (e : j ≡ judgedOf rs q solid) where
+      judged : j ≡ judgedOf rs (rootCube root) solid
+      judged = e ∙ ap (λ (k : Cube). judgedOf rs k solid) is
+
+      pub judged-none : (state : State) → j ≡ Known state → pastOf rs (rootCube root) ≡ []
+      judged-none state h = known-none rs (rootCube root) solid last j judged state h
+
+      pub judged-over : (n : ℕ) → j ≡ Past n → pastOf rs (rootCube root) ≡ n ∷ []
+      judged-over n h = past-first rs (rootCube root) solid last j judged n h
+
+module _ (rs : List Record) (root : Root) (d : List ℕ) where
+  abbrev top : Cube
+  top = rootCube root
+
+  abbrev ls : List Leaf
+  ls = leavesOf rs (root .d) top
+
+  -- ---- reply 6
+  pub outside : inLimits root ≡ false → outcome Limits d ≡ solidOf rs root d
+  unfolding solidOf
+  outside h = rw h
+
+  module _ (within : inLimits root ≡ true) where
+    -- ---- reply 7
+    pub over-root : (n : ℕ) → pastOf rs top ≡ n ∷ [] → outcome (OverRoot n) d ≡ solidOf rs root d
+    unfolding solidOf
+    over-root n h = rw (within, h)
+
+    module _ (none : pastOf rs top ≡ []) where
+      -- ---- reply 11
+      pub over-smaller : (n : ℕ) → Begins n (pastsOf rs (root .d) top) → outcome (OverSmaller n) d ≡ solidOf rs root d
+      unfolding solidOf
+      over-smaller n h = rw (within, none) (sym (begins-first n (pastsOf rs (root .d) top) (λ m. outcome (OverSmaller m) d) (storedOf (builtMap rs root) d) h))
+
+      pub no-smaller : (o : Outcome) → pastsOf rs (root .d) top ≡ [] → o ≡ storedOf (builtMap rs root) d → o ≡ solidOf rs root d
+      unfolding solidOf
+      no-smaller o h e = rw (within, none, h) e
+
+    -- ---- reply 8, and the map
+    module _ (n : ℕ) (count : n ≡ length ls) where
+      length-is : length (builtMap rs root) ≡ 19 + 3 * n
+      unfolding builtMap
+      length-is = map-length root ls ∙ rw count
+
+      pub too-short : length d < 19 + 3 * n → outcome (Short (19 + 3 * n)) d ≡ storedOf (builtMap rs root) d
+      unfolding storedOf
+      too-short h = rw (length-is, lt-ltb (length d) (19 + 3 * n) h)
+
+      module _ (d₁ d₂ : List ℕ) (header : d₁ ≡ sets d 0 (headerOf root n)) (leaves : d₂ ≡ sets d₁ 19 (leavesBytes ls)) where
+        stored : d₂ ≡ sets d 0 (builtMap rs root)
+        unfolding builtMap mapOf
+        stored =
+            leaves
+            ∙ ap (λ (x : List ℕ). sets x 19 (leavesBytes ls)) header
+            ∙ sets-append d 0 19 (headerOf root n) (leavesBytes ls) (omega (arith, header-length root n))
+            ∙ rw count
+
+        pub whole : 19 + 3 * n ≤ length d → outcome (Done (19 + 3 * n)) d₂ ≡ storedOf (builtMap rs root) d
+        unfolding storedOf
+        whole h =
+            rw (length-is, le-ltb (length d) (19 + 3 * n) h)
+            (ap (outcome (Done (19 + 3 * n))) (stored ∙ sets-eq (builtMap rs root) d 0 (omega (arith, length-is)) ∙ rw (zero-add, length-is)))

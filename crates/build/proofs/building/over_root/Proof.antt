@@ -1,0 +1,62 @@
+-- `build::building::over_root` meets its contract: the limits of the root, then the limit of the bounds over it. Assumes nothing.
+use native.Mathlib.Omega.{arith}
+use mathlib.Core.Path.{sym, _∙_}
+use borrow.Author.Tests.{not-true, not-false}
+use Rattle.cube.proofs.Limits.{limits-sizes}
+use Rattle.cube.proofs.Cubes.{root-near, near-fewer}
+use Rattle.build.proofs.Outcomes.{judged-none, judged-over, outside, over-root}
+use borrow.Author.Needs.{needs}
+use Rattle.build.proofs.building.over_root.Statement.{statement}
+use Rattle.build.proofs.building.over_root.Tie as tie
+
+is-within-requires : tie.Need-is-within-requires
+is-within-requires c κs = search needs
+
+returns : tie.Need-returns
+returns c = outside _ _ _ (sym (c .before .is-within .ensures) ∙ not-true _ (c .if1 .taken))
+
+add-judge : tie.Need-add-judge
+add-judge c = search needs
+
+cube-requires : tie.Need-cube-requires
+cube-requires c κs = limits-sizes _ (sym (c .before .is-within .ensures) ∙ not-false _ (c .if1 .left)) .0
+
+judge-requires : tie.Need-judge-requires
+judge-requires c κs =
+    (c .before .before .before .before .before .pre, rw (c .cube .ensures) (near-fewer _ 0 _ (root-near _ (sym (c .before .before .is-within .ensures) ∙ not-false _ (c .before .if1 .left))) (omega arith)))
+
+enum-told : tie.Need-enum-told
+enum-told c = search needs
+
+over-smaller-requires : tie.Need-over-smaller-requires
+over-smaller-requires c κs =
+    (c .before .before .before .before .before .before .before .before .before .pre, ((sym (c .before .before .before .before .before .before .is-within .ensures) ∙ not-false _ (c .before .before .before .before .before .if1 .left)), judged-none _ _ _ (c .before .before .before .before .cube .ensures) _ (c .before .before .before .before .before .before .before .before .before .pre) _ (c .before .before .before .judge .ensures) _ (c .before .enum-told .given .1)))
+
+same-length : tie.Need-same-length
+same-length c = search needs
+
+returns-2 : tie.Need-returns-2
+returns-2 c = search needs
+
+enum-known-n : tie.Need-enum-known-n
+enum-known-n c = search needs
+
+returns-3 : tie.Need-returns-3
+returns-3 c =
+    over-root _ _ _ (sym (c .before .before .before .before .before .before .is-within .ensures) ∙ not-false _ (c .before .before .before .before .before .if1 .left)) _ (judged-over _ _ _ (c .before .before .before .before .cube .ensures) _ (c .before .before .before .before .before .before .before .before .before .pre) _ (c .before .before .before .judge .ensures) _ (c .before .n .given .1))
+
+pub over-root-spec : {M : Type 1} → statement M
+over-root-spec =
+    tie.close
+    (tie.spec
+    is-within-requires
+    returns
+    add-judge
+    cube-requires
+    judge-requires
+    enum-told
+    over-smaller-requires
+    same-length
+    returns-2
+    enum-known-n
+    returns-3)

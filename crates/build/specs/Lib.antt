@@ -1,0 +1,4 @@
+pub mod Tree
+pub mod Solid
+pub mod Build
+pub mod Counting

@@ -1,0 +1,80 @@
+// The public call: the replies in order of test, then the map.
+
+ghost use mathlib.Core.Path.{_≡_};
+ghost use Prim.Native.Nat.{_+_};
+ghost use mathlib.Core.Bool.{true};
+ghost use mathlib.Core.List.{[]};
+ghost use lib.ListN.{length};
+ghost use Rattle.sheet.specs.Records.{recordsOf};
+ghost use Rattle.cube.specs.Limits.{inLimits};
+ghost use Rattle.cube.specs.Cubes.{rootCube};
+ghost use Rattle.build.specs.Solid.{leavesOf, pastOf, pastsOf};
+ghost use Rattle.build.specs.Build.{outcome, builtMap, storedOf, solidOf, buildOf};
+use crate::Counted;
+use crate::Reply;
+use crate::leaves;
+use colour::Judged;
+use cube::Root;
+use sheet::Checked;
+
+// Builds the zone map of a sheet over a root at the start of `out`; where it refuses, `out` stays as it is.
+pub fn build(sheet: &[u8], x: i32, y: i32, z: i32, k: u8, d: u8, out: &mut [u8]) -> Reply
+    ensures { λ r. ⌜ outcome r (now (out .exit)) ≡ buildOf (now (sheet .entry)) (record { x = x; y = y; z = z; k = k; d = d }) (now (out .entry)) ⌝ }
+{
+    let root = Root { x, y, z, k, d };
+    match sheet::check(sheet) {
+        Checked::Good(n) => {
+            return over_root(sheet, (n - 1) as u8, root, out);
+        }
+        Checked::Refused(why) => {
+            return Reply::Sheet(why);
+        }
+    }
+}
+
+// Replies 6 and 7, and the rest.
+fn over_root(sheet: &[u8], solid: u8, root: Root, out: &mut [u8]) -> Reply
+    requires { ⌜ solid + 1 ≡ length (recordsOf (now sheet)) ⌝ }
+    ensures { λ r. ⌜ outcome r (now (out .exit)) ≡ solidOf (recordsOf (now (sheet .entry))) root (now (out .entry)) ⌝ }
+{
+    if !root.is_within() {
+        return Reply::Limits;
+    }
+    match colour::judge(sheet, solid as usize + 1, root.cube(), solid) {
+        Judged::Known(_) => {
+            return over_smaller(sheet, solid, root, out);
+        }
+        Judged::Past(n) => {
+            return Reply::OverRoot(n);
+        }
+    }
+}
+
+// Reply 11, and the rest.
+fn over_smaller(sheet: &[u8], solid: u8, root: Root, out: &mut [u8]) -> Reply
+    requires { ⌜ solid + 1 ≡ length (recordsOf (now sheet)) ⌝ ∗ ⌜ inLimits root ≡ true ⌝ ∗ ⌜ pastOf (recordsOf (now sheet)) (rootCube root) ≡ [] ⌝ }
+    ensures { λ r. ⌜ outcome r (now (out .exit)) ≡ solidOf (recordsOf (now (sheet .entry))) root (now (out .entry)) ⌝ }
+{
+    match leaves::count(sheet, solid, root.cube(), root.d) {
+        Counted::Leaves(n) => {
+            return stored(sheet, solid, root, n, out);
+        }
+        Counted::Past(n) => {
+            return Reply::OverSmaller(n);
+        }
+    }
+}
+
+// Reply 8, and the map of n leaves.
+fn stored(sheet: &[u8], solid: u8, root: Root, n: usize, out: &mut [u8]) -> Reply
+    requires { ⌜ solid + 1 ≡ length (recordsOf (now sheet)) ⌝ ∗ ⌜ inLimits root ≡ true ⌝ ∗ ⌜ pastsOf (recordsOf (now sheet)) (root .d) (rootCube root) ≡ [] ⌝ ∗ ⌜ n ≡ length (leavesOf (recordsOf (now sheet)) (root .d) (rootCube root)) ⌝ }
+    ensures { λ r. ⌜ outcome r (now (out .exit)) ≡ storedOf (builtMap (recordsOf (now (sheet .entry))) root) (now (out .entry)) ⌝ }
+{
+    let need = 19 + 3 * n;
+    if out.len() < need {
+        return Reply::Short(need);
+    }
+    zonemap::put_header(out, root, n as u32);
+    let _end = leaves::write(sheet, out, 19, solid, root.cube(), root.d);
+    Reply::Done(need)
+}

@@ -1,0 +1,253 @@
+//! Sheets to measure with: a corridor of rooms with bays, columns and domes in 50, 150 and 256 records, and one that is gray to depth 10.
+use crate::baseline::Root;
+use std::collections::HashMap;
+
+/// A sheet with the root and depth at which it is built.
+pub struct Case {
+    pub records: usize,
+    pub sheet: Vec<u8>,
+    pub root: Root,
+}
+
+/// Records under construction. Each call answers a record's number, and a record that is already there is used again.
+#[derive(Default)]
+struct Sheet {
+    bytes: Vec<u8>,
+    numbers: HashMap<Vec<u8>, u8>,
+}
+
+impl Sheet {
+    fn count(&self) -> usize {
+        self.numbers.len()
+    }
+
+    fn record(&mut self, kind: u8, rest: &[u8]) -> u8 {
+        let mut made = vec![1 + rest.len() as u8, kind];
+        made.extend(rest);
+        let next = self.count();
+        if let Some(&number) = self.numbers.get(&made) {
+            return number;
+        }
+        assert!(next < 256, "a sheet has at most 256 records");
+        self.bytes.extend(&made);
+        self.numbers.insert(made, next as u8);
+        next as u8
+    }
+
+    fn constant(&mut self, c: i32) -> u8 {
+        self.record(1, &c.to_be_bytes())
+    }
+
+    /// x, y or z, by the axis 0, 1 or 2.
+    fn coordinate(&mut self, axis: u8) -> u8 {
+        self.record(2 + axis, &[])
+    }
+
+    fn sum(&mut self, a: u8, b: u8) -> u8 {
+        self.record(5, &[a, b])
+    }
+
+    fn product(&mut self, a: u8, b: u8) -> u8 {
+        self.record(7, &[a, b])
+    }
+
+    fn face(&mut self, a: u8) -> u8 {
+        self.record(16, &[a])
+    }
+
+    fn both(&mut self, p: u8, q: u8) -> u8 {
+        self.record(17, &[p, q])
+    }
+
+    fn either(&mut self, p: u8, q: u8) -> u8 {
+        self.record(18, &[p, q])
+    }
+
+    fn complement(&mut self, p: u8) -> u8 {
+        self.record(19, &[p])
+    }
+
+    fn at_most(&mut self, a: u8, c: i32) -> u8 {
+        let limit = self.constant(c);
+        let over = self.record(6, &[a, limit]);
+        self.face(over)
+    }
+
+    fn at_least(&mut self, a: u8, c: i32) -> u8 {
+        let limit = self.constant(c);
+        let under = self.record(6, &[limit, a]);
+        self.face(under)
+    }
+
+    /// Between two planes across an axis.
+    fn slab(&mut self, axis: u8, low: i32, high: i32) -> u8 {
+        let a = self.coordinate(axis);
+        let (from, to) = (self.at_least(a, low), self.at_most(a, high));
+        self.both(from, to)
+    }
+
+    fn offset(&mut self, axis: u8, centre: i32) -> u8 {
+        let (a, c) = (self.coordinate(axis), self.constant(centre));
+        self.record(6, &[a, c])
+    }
+
+    fn offset_squared(&mut self, axis: u8, centre: i32) -> u8 {
+        let offset = self.offset(axis, centre);
+        self.record(8, &[offset])
+    }
+
+    fn flat_distance_squared(&mut self, x: i32, y: i32) -> u8 {
+        let (a, b) = (self.offset_squared(0, x), self.offset_squared(1, y));
+        self.sum(a, b)
+    }
+
+    /// All heights within a radius of an upright axis.
+    fn cylinder(&mut self, x: i32, y: i32, radius: i32) -> u8 {
+        let square = self.flat_distance_squared(x, y);
+        self.at_most(square, radius * radius)
+    }
+
+    fn sphere(&mut self, [x, y, z]: [i32; 3], radius: i32) -> u8 {
+        let (flat, up) = (self.flat_distance_squared(x, y), self.offset_squared(2, z));
+        let square = self.sum(flat, up);
+        self.at_most(square, radius * radius)
+    }
+
+    fn finish(self) -> Vec<u8> {
+        let mut sheet = (1 + self.bytes.len() as u16).to_be_bytes().to_vec();
+        sheet.push(1);
+        sheet.extend(self.bytes);
+        sheet
+    }
+}
+
+/// A part of a room takes at most so many records, but for the first box; a roof can fill any number from so many on.
+const MOST_OF_A_PART: usize = 14;
+const LEAST_OF_A_ROOF: usize = 13;
+
+const FLOOR: i32 = 80;
+const CEILING: i32 = 780;
+
+/// The measures of the i-th room of the corridor: its west wall, width and window wall.
+fn measures(i: i32) -> (i32, i32, i32) {
+    (100 + 1000 * i, 970 - 13 * i, 1500 + 7 * i)
+}
+
+fn space(s: &mut Sheet, i: i32) -> u8 {
+    let (west, width, window) = measures(i);
+    let (x, y, z) = (
+        s.slab(0, west, west + width),
+        s.slab(1, 300, window),
+        s.slab(2, FLOOR, CEILING),
+    );
+    let plan = s.both(x, y);
+    s.both(plan, z)
+}
+
+/// The solid with a bay on the room's window wall.
+fn bay(s: &mut Sheet, i: i32, solid: u8) -> u8 {
+    let (west, width, window) = measures(i);
+    let (round, z) = (
+        s.cylinder(west + width / 2, window, 250 + 9 * i),
+        s.slab(2, FLOOR, CEILING),
+    );
+    let bay = s.both(round, z);
+    s.either(solid, bay)
+}
+
+/// The solid with a dome over the room.
+fn dome(s: &mut Sheet, i: i32, solid: u8) -> u8 {
+    let (west, width, _) = measures(i);
+    let dome = s.sphere([west + width / 2, 900, CEILING], 190 + 11 * i);
+    s.either(solid, dome)
+}
+
+/// The solid less a column in the room.
+fn column(s: &mut Sheet, i: i32, solid: u8) -> u8 {
+    let (west, ..) = measures(i);
+    let column = s.cylinder(west + 200 + 17 * i, 640, 31 + i);
+    let clear = s.complement(column);
+    s.both(solid, clear)
+}
+
+/// The solid with one room more.
+fn room(s: &mut Sheet, i: i32, solid: u8) -> u8 {
+    let next = space(s, i);
+    s.either(solid, next)
+}
+
+/// Cuts the solid by slanting planes, of four records or of five with a complement, until there are exactly so many records.
+fn roof(s: &mut Sheet, mut solid: u8, records: usize) -> u8 {
+    let (y, z) = (s.coordinate(1), s.coordinate(2));
+    let slant = s.sum(y, z);
+    let fives = (records - s.count()) % 4;
+    let mut planes = 0;
+    while s.count() < records {
+        let plane = if planes < fives {
+            let low = s.at_most(slant, 410 + 15 * planes as i32);
+            s.complement(low)
+        } else {
+            s.at_most(slant, 2300 + 15 * planes as i32)
+        };
+        solid = s.both(solid, plane);
+        planes += 1;
+    }
+    solid
+}
+
+/// As many rooms with their parts as fit in so many records, under a roof that takes the rest.
+fn corridor(records: usize, k: u8, d: u8) -> Case {
+    let mut s = Sheet::default();
+    let mut solid = space(&mut s, 0);
+    let parts: [fn(&mut Sheet, i32, u8) -> u8; 4] = [room, bay, dome, column];
+    let mut next = 1;
+    while s.count() + MOST_OF_A_PART + LEAST_OF_A_ROOF <= records {
+        solid = parts[next % parts.len()](&mut s, (next / parts.len()) as i32, solid);
+        next += 1;
+    }
+    roof(&mut s, solid, records);
+    assert_eq!(s.count(), records);
+    Case {
+        records,
+        sheet: s.finish(),
+        root: Root {
+            corner: [0, 0, 0],
+            k,
+            d,
+        },
+    }
+}
+
+/// The sheets of the speed measure.
+pub fn corridors() -> [Case; 3] {
+    [
+        corridor(50, 11, 7),
+        corridor(150, 12, 7),
+        corridor(256, 13, 8),
+    ]
+}
+
+/// One point, as two faces that only that point satisfies: gray to depth 10 round it and white elsewhere. All kinds are used.
+pub fn point() -> Case {
+    let mut s = Sheet::default();
+    let centre = [341, 682, 170];
+    let first = s.sphere(centre, 0);
+    let [x, y, z] = [0, 1, 2].map(|axis| s.offset(axis, centre[axis as usize]));
+    let squares = [s.product(x, x), s.product(y, y), s.product(z, z)];
+    let flat = s.sum(squares[0], squares[1]);
+    let distance = s.sum(flat, squares[2]);
+    let second = s.at_most(distance, 0);
+    let outside = s.complement(first);
+    let beside = s.complement(second);
+    let elsewhere = s.either(outside, beside);
+    s.complement(elsewhere);
+    Case {
+        records: s.count(),
+        sheet: s.finish(),
+        root: Root {
+            corner: [0, 0, 0],
+            k: 10,
+            d: 10,
+        },
+    }
+}

@@ -1,0 +1,32 @@
+// The library's face to C and Rust: each call has the contract of the proved call behind it.
+
+ghost use mathlib.Core.Path.{_≡_};
+ghost use Rattle.build.specs.Build.{Outcome, buildOf, codeOf, numberOf};
+ghost use Rattle.zone.specs.Replies.{ZoneOutcome, zoneOutcome, zoneBuildOf};
+
+// A reply by document 01's code and number.
+#[repr(C)]
+pub struct ZoneReply {
+    pub code: u32,
+    pub number: u64,
+}
+
+// Builds the zone map of a sheet over a root at the start of `out`; where it refuses, `out` stays as it is.
+#[no_mangle]
+pub extern "C" fn zone_build(
+    sheet: &[u8],
+    x: i32,
+    y: i32,
+    z: i32,
+    k: u8,
+    d: u8,
+    out: &mut [u8],
+) -> ZoneReply
+    ensures { λ r. ⌜ zoneOutcome r (now (out .exit)) ≡ zoneBuildOf (now (sheet .entry)) (record { x = x; y = y; z = z; k = k; d = d }) (now (out .entry)) ⌝ }
+{
+    let reply = build::build(sheet, x, y, z, k, d, out);
+    ZoneReply {
+        code: reply.code(),
+        number: reply.number() as u64,
+    }
+}

@@ -3,3 +3,6 @@ pub mod Cubes
 pub mod Count
 pub mod Stores
 pub mod Outcomes
+pub mod Rows
+pub mod Substitutes
+pub mod Answers

@@ -1,3 +1,4 @@
 pub mod Coordinates
 pub mod Arms
 pub mod Filling
+pub mod Rows

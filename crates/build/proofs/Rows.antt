@@ -1,0 +1,195 @@
+-- Document 01's worked rows of the step room, worked out from the definitions. Assumes nothing.
+use mathlib.Core.Path.{_≡_, refl, sym, ap, _∙_}
+use mathlib.Core.Bool.{true, false}
+use mathlib.Core.List.{List, [], _∷_, _++_}
+use Prim.Native.Nat.{ℕ, _+_, _-_}
+use native.Mathlib.Omega.{arith}
+use lib.IntN.{pos}
+use lib.ListN.{length, getD, replicate, length-append}
+use lib.Seq.{getD-at}
+use Rattle.bigendian.specs.Numbers.{unsignedAt, signed32, bytesOf, unsigned32}
+use lib.Signed.{leZ, ltZ}
+use Rattle.integers.proofs.Order.{by-test}
+use Rattle.interval.specs.declared.Interval.{Interval}
+use Rattle.interval.specs.Rules.{sum, difference}
+use Rattle.interval.specs.Limit.{isSmall, isWithin}
+use Rattle.sheet.specs.declared.Record.{Record}
+use Rattle.sheet.specs.declared.Record.the-variants.{Constant, X, Y, Difference, Face, Both}
+use Rattle.sheet.specs.declared.Checked.the-variants.{Good}
+use Rattle.sheet.specs.Table.{rowOf, rowAt, readAt}
+use Rattle.sheet.specs.Records.{readFrom, reading, recordsOf}
+use Rattle.sheet.specs.Operands.{firstUnmet, lastSort}
+use Rattle.sheet.specs.Check.{sortedOf, checkOf}
+use Rattle.sheet.specs.Along.{along, onward}
+use Rattle.sheet.proofs.Along.{length-along, entry}
+use Rattle.cube.specs.declared.Root.{Root}
+use Rattle.cube.specs.declared.Cube.{Cube}
+use Rattle.cube.specs.Limits.{axisFits, sizesFit, inLimits}
+use Rattle.cube.specs.Cubes.{rootCube, childOf}
+use Rattle.colour.specs.Bounds.{across, boundsOf}
+use Rattle.colour.specs.declared.State.{State}
+use Rattle.colour.specs.declared.State.the-variants.{In, Out, Single}
+use Rattle.colour.specs.States.{faceState, bothOf, eitherOf, stateOf}
+use Rattle.colour.specs.Entries.{Entry, blank, entryOf, entries, beforePast}
+use Rattle.zonemap.specs.declared.Leaf.{Leaf}
+use Rattle.zonemap.specs.Map.{leafBytes, leavesBytes, cornerBytes, headerOf, mapOf}
+use Rattle.build.specs.declared.Reply.the-variants.{Done, Short}
+use Rattle.build.specs.Tree.{upto, visit}
+use Rattle.build.specs.Solid.{solidState, isGray, leafOf, leavesOf, pastOf, pastsOf}
+use Rattle.build.proofs.Cubes.{leaves-flat}
+use Rattle.build.specs.Build.{outcome, builtMap, storedOf, solidOf, buildOf}
+
+-- sheet S: the solid is x at most 2 and y at most 2
+pub stepSheet : List ℕ
+stepSheet = 0 ∷ 29 ∷ 1 ∷ 1 ∷ 2 ∷ 1 ∷ 3 ∷ 5 ∷ 1 ∷ 0 ∷ 0 ∷ 0 ∷ 2 ∷ 3 ∷ 6 ∷ 0 ∷ 2 ∷ 3 ∷ 6 ∷ 1 ∷ 2 ∷ 2 ∷ 16 ∷ 3 ∷ 2 ∷ 16 ∷ 4 ∷ 3 ∷ 17 ∷ 5 ∷ 6 ∷ []
+
+-- root 0 0 0, k 2, at depth d
+abbrev pub stepRoot : ℕ → Root
+stepRoot d = record { x = pos 0; y = pos 0; z = pos 0; k = 2; d = d }
+
+-- its records
+abbrev stepRecords : List Record
+stepRecords = X ∷ Y ∷ Constant (pos 2) ∷ Difference 0 2 ∷ Difference 1 2 ∷ Face 3 ∷ Face 4 ∷ Both 5 6 ∷ []
+
+pub step-records : recordsOf stepSheet ≡ stepRecords
+unfolding stepSheet reading readFrom readAt rowAt rowOf signed32 unsignedAt
+step-records = refl
+
+abbrev leaf : ℕ → ℕ → ℕ → Leaf
+leaf level class face = record { level = level; class = class; face = face }
+
+step-check : checkOf stepSheet ≡ Good 8
+unfolding stepSheet checkOf sortedOf firstUnmet lastSort reading readFrom readAt rowAt rowOf unsignedAt
+step-check = refl
+
+-- S at d 0: one leaf, level 0, gray
+pub depth-0 : leavesOf stepRecords 0 (rootCube (stepRoot 0)) ≡ leaf 0 4 0 ∷ []
+unfolding leavesOf visit isGray leafOf solidState along onward entryOf boundsOf stateOf across sum difference faceState bothOf rootCube
+depth-0 = refl
+
+-- S at d 1: 8 leaves
+pub depth-1 : leavesOf stepRecords 1 (rootCube (stepRoot 1)) ≡ leaf 1 1 0 ∷ leaf 1 2 5 ∷ leaf 1 2 6 ∷ leaf 1 4 0 ∷ leaf 1 1 0 ∷ leaf 1 2 5 ∷ leaf 1 2 6 ∷ leaf 1 4 0 ∷ []
+unfolding leavesOf visit upto isGray leafOf solidState along onward entryOf boundsOf stateOf across sum difference faceState bothOf rootCube childOf
+depth-1 = refl
+
+-- S at d 2: 22 leaves; each gray cube becomes gray, white, white, white, twice
+pub depth-2 :
+    leavesOf stepRecords 2 (rootCube (stepRoot 2))
+    ≡ leaf 1 1 0 ∷ leaf 1 2 5 ∷ leaf 1 2 6 ∷ leaf 2 4 0 ∷ leaf 2 0 0 ∷ leaf 2 0 0 ∷ leaf 2 0 0 ∷ leaf 2 4 0 ∷ leaf 2 0 0 ∷ leaf 2 0 0 ∷ leaf 2 0 0 ∷ leaf 1 1 0 ∷ leaf 1 2 5 ∷ leaf 1 2 6 ∷ leaf 2 4 0 ∷ leaf 2 0 0 ∷ leaf 2 0 0 ∷ leaf 2 0 0 ∷ leaf 2 4 0 ∷ leaf 2 0 0 ∷ leaf 2 0 0 ∷ leaf 2 0 0 ∷ []
+unfolding leavesOf visit upto isGray leafOf solidState along onward entryOf boundsOf stateOf across sum difference faceState bothOf rootCube childOf
+depth-2 = refl
+
+-- the map of S at d 1, byte by byte
+abbrev pub stepMap : List ℕ
+stepMap = 0 ∷ 0 ∷ 0 ∷ 39 ∷ 1 ∷ 0 ∷ 0 ∷ 0 ∷ 0 ∷ 0 ∷ 0 ∷ 0 ∷ 0 ∷ 0 ∷ 0 ∷ 0 ∷ 0 ∷ 2 ∷ 1 ∷ 1 ∷ 1 ∷ 0 ∷ 1 ∷ 2 ∷ 5 ∷ 1 ∷ 2 ∷ 6 ∷ 1 ∷ 4 ∷ 0 ∷ 1 ∷ 1 ∷ 0 ∷ 1 ∷ 2 ∷ 5 ∷ 1 ∷ 2 ∷ 6 ∷ 1 ∷ 4 ∷ 0 ∷ []
+
+pub map-1 : builtMap stepRecords (stepRoot 1) ≡ stepMap
+unfolding builtMap mapOf headerOf cornerBytes bytesOf unsigned32 leavesBytes leafBytes
+map-1 = ap (mapOf (stepRoot 1)) depth-1
+
+-- their lengths
+pub length-0 : length (builtMap stepRecords (stepRoot 0)) ≡ 22
+unfolding builtMap mapOf headerOf cornerBytes bytesOf unsigned32 leavesBytes leafBytes
+length-0 = ap (λ (ls : List Leaf). length (mapOf (stepRoot 0) ls)) depth-0
+
+pub length-2 : length (builtMap stepRecords (stepRoot 2)) ≡ 85
+unfolding builtMap mapOf headerOf cornerBytes bytesOf unsigned32 leavesBytes leafBytes
+length-2 = ap (λ (ls : List Leaf). length (mapOf (stepRoot 2) ls)) depth-2
+
+-- ---- what building answers
+-- the sheet is good, the root is in its limits, and no record passes the limit
+step-build : (d : ℕ) → inLimits (stepRoot d) ≡ true → pastOf stepRecords (rootCube (stepRoot d)) ≡ [] → pastsOf stepRecords d (rootCube (stepRoot d)) ≡ [] → (out : List ℕ)
+    → buildOf stepSheet (stepRoot d) out ≡ storedOf (builtMap stepRecords (stepRoot d)) out
+unfolding buildOf solidOf
+step-build d l p q out =
+    let c : checkOf stepSheet ≡ Good 8 = step-check in
+    rw (c, step-records, l, p, q)
+
+inside-0 : inLimits (stepRoot 0) ≡ true
+unfolding inLimits sizesFit axisFits
+inside-0 = refl
+
+none-0 : pastOf stepRecords (rootCube (stepRoot 0)) ≡ []
+unfolding pastOf pastsOf visit upto isGray solidState along onward entryOf boundsOf stateOf across sum difference faceState bothOf rootCube childOf beforePast isWithin isSmall
+none-0 = refl
+
+no-smaller-0 : pastsOf stepRecords 0 (rootCube (stepRoot 0)) ≡ []
+unfolding pastOf pastsOf visit upto isGray solidState along onward entryOf boundsOf stateOf across sum difference faceState bothOf rootCube childOf beforePast isWithin isSmall
+no-smaller-0 = refl
+
+inside-1 : inLimits (stepRoot 1) ≡ true
+unfolding inLimits sizesFit axisFits
+inside-1 = refl
+
+none-1 : pastOf stepRecords (rootCube (stepRoot 1)) ≡ []
+unfolding pastOf pastsOf visit upto isGray solidState along onward entryOf boundsOf stateOf across sum difference faceState bothOf rootCube childOf beforePast isWithin isSmall
+none-1 = refl
+
+no-smaller-1 : pastsOf stepRecords 1 (rootCube (stepRoot 1)) ≡ []
+unfolding pastOf pastsOf visit upto isGray solidState along onward entryOf boundsOf stateOf across sum difference faceState bothOf rootCube childOf beforePast isWithin isSmall
+no-smaller-1 = refl
+
+inside-2 : inLimits (stepRoot 2) ≡ true
+unfolding inLimits sizesFit axisFits
+inside-2 = refl
+
+none-2 : pastOf stepRecords (rootCube (stepRoot 2)) ≡ []
+unfolding pastOf pastsOf visit upto isGray solidState along onward entryOf boundsOf stateOf across sum difference faceState bothOf rootCube childOf beforePast isWithin isSmall
+none-2 = refl
+
+no-smaller-2 : pastsOf stepRecords 2 (rootCube (stepRoot 2)) ≡ []
+unfolding pastOf pastsOf visit upto isGray solidState along onward entryOf boundsOf stateOf across sum difference faceState bothOf rootCube childOf beforePast isWithin isSmall
+no-smaller-2 = refl
+
+-- S at d 0: 22 bytes
+pub build-0 : (out : List ℕ) → buildOf stepSheet (stepRoot 0) out ≡ storedOf (mapOf (stepRoot 0) (leaf 0 4 0 ∷ [])) out
+unfolding builtMap
+build-0 out = step-build 0 inside-0 none-0 no-smaller-0 out ∙ ap (λ (ls : List Leaf). storedOf (mapOf (stepRoot 0) ls) out) depth-0
+
+-- S at d 1: the 43 bytes above
+pub build-1 : (out : List ℕ) → buildOf stepSheet (stepRoot 1) out ≡ storedOf stepMap out
+build-1 out = step-build 1 inside-1 none-1 no-smaller-1 out ∙ ap (λ (m : List ℕ). storedOf m out) map-1
+
+-- a 42-byte buffer gives 8 with 43
+pub short-1 : buildOf stepSheet (stepRoot 1) (replicate 42 0) ≡ outcome (Short 43) (replicate 42 0)
+unfolding storedOf
+short-1 = build-1 (replicate 42 0)
+
+-- and one of 43 bytes is the map
+pub fits-1 : buildOf stepSheet (stepRoot 1) (replicate 43 0) ≡ outcome (Done 43) stepMap
+unfolding storedOf
+fits-1 = build-1 (replicate 43 0)
+
+-- S at d 2: 85 bytes
+pub build-2 : (out : List ℕ) → buildOf stepSheet (stepRoot 2) out ≡ storedOf (builtMap stepRecords (stepRoot 2)) out
+build-2 out = step-build 2 inside-2 none-2 no-smaller-2 out
+
+-- ---- a sheet whose last record is a face
+module _ (rs : List Record) (a : ℕ) where
+  abbrev faced : List Record
+  faced = rs ++ Face a ∷ []
+
+  -- its state is the face's own
+  solid-face : (q : Cube) → solidState faced q ≡ faceState (getD (entries q rs) a blank .bounds) (length rs)
+  unfolding solidState entryOf stateOf
+  solid-face q =
+      let n : length faced - 1 ≡ length rs = omega (arith, length-append rs (Face a ∷ [])) in
+      ap (λ (k : ℕ). getD (entries q faced) k blank .state) n
+      ∙ ap (λ (e : Entry). e .state) (entry (entryOf q) rs (Face a) [] blank)
+      ∙ ap (faceState (getD (entries q rs) a blank .bounds)) (length-along (entryOf q) rs)
+
+  -- a face that is Single is so by its own number
+  own-number : (i : Interval) (n f : ℕ) → faceState i n ≡ Single f → f ≡ n
+  unfolding faceState
+  own-number i n f e =
+      by-test (leZ (i .high) (pos 0)) (λ t. let z : In ≡ Single f = rw t at e in let y : _≡_ {A = ℕ} 0 1 = cc in absurd (omega arith))
+      (λ t. by-test (ltZ (pos 0) (i .low)) (λ u. let z : Out ≡ Single f = rw (t, u) at e in let y : _≡_ {A = ℕ} 0 1 = cc in absurd (omega arith))
+      (λ u. let z : Single n ≡ Single f = rw (t, u) at e in cc))
+
+  -- Single over the root, it gives one leaf at any depth: level 0, class 2, that face
+  pub one-face : (root : Root) (f : ℕ) → solidState faced (rootCube root) ≡ Single f → leavesOf faced (root .d) (rootCube root) ≡ leaf 0 2 (length rs) ∷ []
+  unfolding isGray leafOf rootCube
+  one-face root f s =
+      let g : isGray faced (rootCube root) ≡ false = rw s in
+      let k : f ≡ length rs = own-number _ _ f (sym (solid-face (rootCube root)) ∙ s) in
+      leaves-flat faced (root .d) (rootCube root) g ∙ rw (s, k)

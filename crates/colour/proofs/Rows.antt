@@ -1,0 +1,56 @@
+-- Document 01's worked rows of bounds and states, worked out from the definitions. Assumes nothing.
+use mathlib.Core.Path.{_≡_, refl}
+use mathlib.Core.List.{List, [], _∷_}
+use lib.IntN.{pos, negsuc}
+use lib.ListN.{getD}
+use Rattle.integers.specs.Least.{lesserOf, greaterOf}
+use Rattle.interval.specs.Rules.{from, sum, difference, span, product, square}
+use Rattle.sheet.specs.declared.Record.{Record}
+use Rattle.sheet.specs.declared.Record.the-variants.{Constant, X, Difference, Product, Square}
+use Rattle.sheet.specs.Along.{along, onward}
+use Rattle.cube.specs.declared.Cube.{Cube}
+use Rattle.colour.specs.declared.State.the-variants.{In, Out, Single}
+use Rattle.colour.specs.Bounds.{across, boundsOf}
+use Rattle.colour.specs.States.{faceState, bothOf, stateOf}
+use Rattle.colour.specs.Entries.{blank, entryOf, entries}
+
+-- x(10-x) over x from 4 to 6: [16, 36]
+pub product-row : getD (entries (record { x = pos 4; y = pos 0; z = pos 0; side = 2; level = 0 }) (X ∷ Constant (pos 10) ∷ Difference 1 0 ∷ Product 0 2 ∷ [])) 3 blank .bounds ≡ from (pos 16) (pos 36)
+unfolding along onward entryOf boundsOf stateOf across difference product span lesserOf greaterOf
+product-row = refl
+
+-- the records x, x squared and x times x, over x from -3 to 2
+abbrev folded : List Record
+folded = X ∷ Square 0 ∷ Product 0 0 ∷ []
+
+abbrev around : Cube
+around = record { x = negsuc 2; y = pos 0; z = pos 0; side = 5; level = 0 }
+
+-- square over [-3, 2]: [0, 9]
+pub square-row : getD (entries around folded) 1 blank .bounds ≡ from (pos 0) (pos 9)
+unfolding along onward entryOf boundsOf stateOf across square product span lesserOf greaterOf
+square-row = refl
+
+-- the product of x by itself there: [-6, 9]
+pub unrelated-row : getD (entries around folded) 2 blank .bounds ≡ from (negsuc 5) (pos 9)
+unfolding along onward entryOf boundsOf stateOf across square product span lesserOf greaterOf
+unrelated-row = refl
+
+-- Bounds [-2, 0]: In. Bounds [0, 2]: Single.
+pub in-row : faceState (from (negsuc 1) (pos 0)) 5 ≡ In
+unfolding faceState
+in-row = refl
+
+pub single-row : faceState (from (pos 0) (pos 2)) 5 ≡ Single 5
+unfolding faceState
+single-row = refl
+
+-- and just above 0: Out
+pub out-row : faceState (from (pos 1) (pos 2)) 5 ≡ Out
+unfolding faceState
+out-row = refl
+
+-- the faces that are left in the cube count, not those of the whole sheet: a face that holds all over it leaves the other by itself
+pub left-row : bothOf In (Single 6) ≡ Single 6
+unfolding bothOf
+left-row = refl

@@ -1,0 +1,67 @@
+-- `listing::list` meets its contract: a map that building answers can be listed. Assumes nothing.
+use Rattle.listing.proofs.Made.{made}
+use borrow.Author.Needs.{needs}
+use Rattle.listing.proofs.list.Statement.{statement}
+use Rattle.listing.proofs.list.Tie as tie
+
+root-of-requires : tie.Need-root-of-requires
+root-of-requires c κs = search needs
+
+sub-build : tie.Need-sub-build
+sub-build c = search needs
+
+part-build-start : tie.Need-part-build-start
+part-build-start c = search needs
+
+part-build-end : tie.Need-part-build-end
+part-build-end c = search needs
+
+slice-aggregate-build : tie.Need-slice-aggregate-build
+slice-aggregate-build c = search needs
+
+build-requires : tie.Need-build-requires
+build-requires c κs = search needs
+
+enum-known-reply : tie.Need-enum-known-reply
+enum-known-reply c = search needs
+
+code-requires : tie.Need-code-requires
+code-requires c κs = search needs
+
+number-requires : tie.Need-number-requires
+number-requires c κs = search needs
+
+refuse-requires : tie.Need-refuse-requires
+refuse-requires c κs = search needs
+
+returns : tie.Need-returns
+returns c = search needs
+
+slice-aggregate-answered : tie.Need-slice-aggregate-answered
+slice-aggregate-answered c = search needs
+
+answered-requires : tie.Need-answered-requires
+answered-requires c κs =
+    made _ _ _ _ _ _ (search needs) (search needs) (search needs) (c .before .before .before .before .before .build .ensures) (c .before .before .reply .given .1) (c .before .before .before .before .before .build .kept .1 .1 .1 .1 .1 .1 .0)
+
+returns-2 : tie.Need-returns-2
+returns-2 c = search needs
+
+pub list-spec : {M : Type 1} → statement M
+list-spec =
+    tie.close
+    (tie.spec
+    root-of-requires
+    sub-build
+    part-build-start
+    part-build-end
+    slice-aggregate-build
+    build-requires
+    enum-known-reply
+    code-requires
+    number-requires
+    refuse-requires
+    returns
+    slice-aggregate-answered
+    answered-requires
+    returns-2)

@@ -30,11 +30,12 @@ use Rattle.sheet.proofs.Walk.{Before, before-first, stands-record, before-next}
 use Rattle.sheet.proofs.Arrays.{Reads, reads-more}
 use Rattle.cube.specs.declared.Cube.{Cube}
 use Rattle.colour.specs.declared.State.{State}
-use Rattle.colour.specs.declared.State.the-variants.{Mixed}
+use Rattle.colour.specs.declared.State.the-variants.{Out, In, Single, Comp, Mixed}
 use Rattle.colour.specs.declared.Bounds.{Bounds}
 use Rattle.colour.specs.declared.Judged.the-variants.{Known, Past}
 use Rattle.colour.specs.Bounds.{none, boundsOf}
-use Rattle.colour.specs.States.{stateOf}
+use Rattle.colour.specs.States.{classOf, faceOf, stateBy, stateOf}
+use Rattle.colour.specs.Held.{Held, heldAt}
 use Rattle.colour.specs.Entries.{Entry, blank, entryOf, entries, beforePast, judgedOf}
 use Rattle.colour.proofs.Arms.{zero-small}
 
@@ -65,14 +66,16 @@ keep-more (x ∷ es) e k h (suc a) = keep-more es e (λ b. k (suc b)) h a
 abbrev done : List ℕ → Cube → ℕ → List Entry
 done s q n = entries q (take n (recordsOf s))
 
-pub record Filling (s : List ℕ) (q : Cube) (b : Bounds) (states : List State) (at : ℕ) : Type 0 where
+pub record Filling (s : List ℕ) (q : Cube) (b : Bounds) (classes faces : List ℕ) (at : ℕ) : Type 0 where
   pub walk : Before s at (b .count)
   pub low-long : length (b .low) ≡ 256
   pub high-long : length (b .high) ≡ 256
-  pub states-long : length states ≡ 256
+  pub classes-long : length classes ≡ 256
+  pub faces-long : length faces ≡ 256
   pub lows : Reads (λ e. e .bounds .low) blank (b .low) (done s q (b .count))
   pub highs : Reads (λ e. e .bounds .high) blank (b .high) (done s q (b .count))
-  pub colours : Reads (λ e. e .state) blank states (done s q (b .count))
+  pub classed : Reads (λ e. classOf (e .state)) blank classes (done s q (b .count))
+  pub faced : Reads (λ e. faceOf (e .state)) blank faces (done s q (b .count))
   pub keep : Keep (done s q (b .count))
 
 same : {A : Type 0} (x : A) (n a : ℕ) → getD (replicate n x) a x ≡ x
@@ -80,21 +83,32 @@ same x zero a = refl
 same x (suc n) zero = refl
 same x (suc n) (suc a) = same x n a
 
-pub filling-start : (s : List ℕ) (q : Cube) → Filling s q (record { low = replicate 256 (pos 0); high = replicate 256 (pos 0); count = 0 }) (replicate 256 Mixed) 3
+pub filling-start : (s : List ℕ) (q : Cube) → Filling s q (record { low = replicate 256 (pos 0); high = replicate 256 (pos 0); count = 0 }) (replicate 256 0) (replicate 256 0) 3
 unfolding along onward
 filling-start s q =
     record {
       walk = before-first s;
       low-long = refl;
       high-long = refl;
-      states-long = refl;
+      classes-long = refl;
+      faces-long = refl;
       lows = same (pos 0) 256;
       highs = same (pos 0) 256;
-      colours = same Mixed 256;
+      classed = same 0 256;
+      faced = same 0 256;
       keep = λ a. zero-small;
     }
 
-module _ (s : List ℕ) (q : Cube) (b : Bounds) (states : List State) (at : ℕ) (w : Filling s q b states at) where
+-- a class and a face are a state again
+back-again : (k : State) → stateBy (classOf k) (faceOf k) ≡ k
+unfolding stateBy
+back-again Out = refl
+back-again In = refl
+back-again (Single f) = refl
+back-again (Comp f) = refl
+back-again Mixed = refl
+
+module _ (s : List ℕ) (q : Cube) (b : Bounds) (classes faces : List ℕ) (at : ℕ) (w : Filling s q b classes faces at) where
   abbrev rs : List Record
   rs = recordsOf s
 
@@ -105,25 +119,28 @@ module _ (s : List ℕ) (q : Cube) (b : Bounds) (states : List State) (at : ℕ)
   abbrev known : ℕ → Entry
   known a = getD (done s q n) a blank
 
-  abbrev read : ℕ → Interval
-  read a = from (toZ w64 (ofZ w64 (getD (b .low) a (pos 0)))) (toZ w64 (ofZ w64 (getD (b .high) a (pos 0))))
+  operand : (a : ℕ) → heldAt (b .low) (b .high) a ≡ known a .bounds
+  operand a = λ k. from (w .lows a k) (w .highs a k)
 
-  operand : (a : ℕ) → read a ≡ known a .bounds
-  operand a = rw (w .lows a, w .highs a, limit-back (known a .bounds .low) (w .keep a .low), limit-back (known a .bounds .high) (w .keep a .high))
+  pub held : Held (b .low) (b .high)
+  held = record { lows = w .low-long; highs = w .high-long; small = λ a. rw (operand a) (w .keep a) }
 
-  pub operand-small : (a : ℕ) → SmallEnds (read a)
-  operand-small a = rw (operand a) (w .keep a)
+  abbrev stated : ℕ → State
+  stated a = stateBy (getD classes a 0) (getD faces a 0)
+
+  coloured : (a : ℕ) → stated a ≡ known a .state
+  coloured a = rw (w .classed a, w .faced a) (back-again (known a .state))
 
   -- at the end all records are done
-  pub judged-end : (which : ℕ) → length rs ≤ n → Known (getD states which Mixed) ≡ judgedOf rs q which
+  pub judged-end : (which : ℕ) (k : State) → length rs ≤ n → k ≡ stated which → Known k ≡ judgedOf rs q which
   unfolding judgedOf
-  judged-end which h =
+  judged-end which k h e =
       let t : take n rs ≡ rs = take-all n rs h in
       let p : beforePast (entries q rs) ≡ length rs = rw t at (none-past (done s q n) (w .keep)) ∙ length-along (entryOf q) rs in
-      rw (p, le-ltb (length rs) (length rs) (omega arith)) (ap Known (w .colours which ∙ ap (λ (l : List Record). getD (entries q l) which blank .state) t))
+      rw (p, le-ltb (length rs) (length rs) (omega arith)) (ap Known (e ∙ coloured which ∙ ap (λ (l : List Record). getD (entries q l) which blank .state) t))
 
-  -- one record more: r stands there, a and c are its operands
-  module _ (more : n < length rs) (r : Record) (row : rowAt s at ≡ Fits r) (a c : ℕ) (ea : a ≡ firstOf r) (ec : c ≡ secondOf r) where
+  -- one record more: r stands there
+  module _ (more : n < length rs) (r : Record) (row : rowAt s at ≡ Fits r) where
     number : getD rs n X ≡ r
     number = stands-record s at n (w .walk) more r row X
 
@@ -137,13 +154,19 @@ module _ (s : List ℕ) (q : Cube) (b : Bounds) (states : List State) (at : ℕ)
     abbrev this : Entry
     this = entryOf q (done s q n) r
 
-    bounds-are : boundsOf q (read a) (read c) r ≡ this .bounds
-    unfolding entryOf
-    bounds-are = rw (operand a, operand c, ea, ec)
+    abbrev first : ℕ
+    first = firstOf r
 
-    state-is : stateOf n (read a) (getD states a Mixed) (getD states c Mixed) r ≡ this .state
+    abbrev second : ℕ
+    second = secondOf r
+
+    bounds-are : boundsOf q (heldAt (b .low) (b .high) first) (heldAt (b .low) (b .high) second) r ≡ this .bounds
     unfolding entryOf
-    state-is = rw (operand a, w .colours a, w .colours c, ea, ec, long)
+    bounds-are = rw (operand first, operand second)
+
+    state-is : stateOf n (heldAt (b .low) (b .high) first) (stated first) (stated second) r ≡ this .state
+    unfolding entryOf
+    state-is = rw (operand first, coloured first, coloured second, long)
 
     grown : done s q (n + 1) ≡ done s q n ++ this ∷ []
     grown = ap (entries q) step ∙ along-more (entryOf q) (take n rs) r
@@ -161,31 +184,34 @@ module _ (s : List ℕ) (q : Cube) (b : Bounds) (states : List State) (at : ℕ)
     pub room : n < 256
     room = omega (arith, on .total)
 
-    module _ (got : Bounded) (eb : got ≡ boundedOf (boundsOf q (read a) (read c) r)) where
+    module _ (got : Bounded) (eb : got ≡ boundedOf (boundsOf q (heldAt (b .low) (b .high) first) (heldAt (b .low) (b .high) second) r)) where
       pub judged-past : (which : ℕ) → got ≡ Over → Past n ≡ judgedOf rs q which
       unfolding judgedOf
       judged-past which h =
-          let f : isWithin (this .bounds) ≡ false = rw bounds-are at (past-tells got (boundsOf q (read a) (read c) r) eb h) in
+          let f : isWithin (this .bounds) ≡ false = rw bounds-are at (past-tells got (boundsOf q (heldAt (b .low) (b .high) first) (heldAt (b .low) (b .high) second) r) eb h) in
           let p : beforePast (entries q rs) ≡ n = ap beforePast cut ∙ first-past (done s q n) this (drop (n + 1) (entries q rs)) (w .keep) f ∙ long in
           rw (p, lt-ltb n (length rs) more)
 
       module _ (v : Interval) (ev : got ≡ Within v) where
         exact : v ≡ this .bounds
-        exact = within-is got (boundsOf q (read a) (read c) r) eb v ev ∙ bounds-are
+        exact = within-is got (boundsOf q (heldAt (b .low) (b .high) first) (heldAt (b .low) (b .high) second) r) eb v ev ∙ bounds-are
 
-        pub filling-next : (state : State) → state ≡ stateOf n (read a) (getD states a Mixed) (getD states c Mixed) r
-            → Filling s q (record { low = set (b .low) n (toZ w64 (ofZ w64 (v .low))); high = set (b .high) n (toZ w64 (ofZ w64 (v .high))); count = n + 1 }) (set states n state) (at + (1 + getD s at 0))
-        filling-next state h =
-            let small = within-small got (boundsOf q (read a) (read c) r) eb v ev in
+        pub filling-next : (state : State) (class face : ℕ) → state ≡ stateOf n (heldAt (b .low) (b .high) first) (stated first) (stated second) r → class ≡ classOf state → face ≡ faceOf state
+            → Filling s q (record { low = set (b .low) n (toZ w64 (ofZ w64 (v .low))); high = set (b .high) n (toZ w64 (ofZ w64 (v .high))); count = n + 1 }) (set classes n class) (set faces n face) (at + 1 + getD s at 0)
+        filling-next state class face h ec ef =
+            let small = within-small got (boundsOf q (heldAt (b .low) (b .high) first) (heldAt (b .low) (b .high) second) r) eb v ev in
             let low = limit-back (v .low) (small .low) in
             let high = limit-back (v .high) (small .high) in
+            let is = h ∙ state-is in
             record {
-              walk = let m : at + 1 + getD s at 0 ≡ at + (1 + getD s at 0) = omega arith in rw m at on;
+              walk = on;
               low-long = length-set (b .low) n _ ∙ w .low-long;
               high-long = length-set (b .high) n _ ∙ w .high-long;
-              states-long = length-set states n state ∙ w .states-long;
+              classes-long = length-set classes n class ∙ w .classes-long;
+              faces-long = length-set faces n face ∙ w .faces-long;
               lows = rw grown (reads-more (λ e. e .bounds .low) blank this _ (b .low) (done s q n) n long (omega (arith, room, w .low-long)) (low ∙ ap (λ (k : Interval). k .low) exact) (w .lows));
               highs = rw grown (reads-more (λ e. e .bounds .high) blank this _ (b .high) (done s q n) n long (omega (arith, room, w .high-long)) (high ∙ ap (λ (k : Interval). k .high) exact) (w .highs));
-              colours = rw grown (reads-more (λ e. e .state) blank this state states (done s q n) n long (omega (arith, room, w .states-long)) (h ∙ state-is) (w .colours));
+              classed = rw grown (reads-more (λ e. classOf (e .state)) blank this class classes (done s q n) n long (omega (arith, room, w .classes-long)) (ec ∙ ap classOf is) (w .classed));
+              faced = rw grown (reads-more (λ e. faceOf (e .state)) blank this face faces (done s q n) n long (omega (arith, room, w .faces-long)) (ef ∙ ap faceOf is) (w .faced));
               keep = rw grown (keep-more (done s q n) this (w .keep) (rw exact at small));
             }

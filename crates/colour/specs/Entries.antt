@@ -11,7 +11,7 @@ use Rattle.sheet.specs.Operands.{firstOf, secondOf}
 use Rattle.sheet.specs.Along.{along}
 use Rattle.cube.specs.declared.Cube.{Cube}
 use Rattle.colour.specs.declared.State.{State}
-use Rattle.colour.specs.declared.State.the-variants.{Mixed}
+use Rattle.colour.specs.declared.State.the-variants.{Out}
 use Rattle.colour.specs.declared.Judged.{Judged}
 use Rattle.colour.specs.declared.Judged.the-variants.{Known, Past}
 use Rattle.colour.specs.Bounds.{none, boundsOf}
@@ -22,9 +22,9 @@ pub record Entry : Type 0 where
   pub bounds : Interval
   pub state : State
 
--- what stands for a record that is not there
+-- what stands for a record that is not there; it holds nowhere
 abbrev pub blank : Entry
-blank = record { bounds = none; state = Mixed }
+blank = record { bounds = none; state = Out }
 
 -- a record's entry, from the entries before it
 unfoldable pub entryOf : Cube → List Entry → Record → Entry

@@ -1,27 +1,28 @@
 -- Colour of a cube: the state of one logical record, and the class and face of a state. Assumes nothing: these are definitions.
 use Prim.Native.Nat.{ℕ}
 use mathlib.Core.Bool.{Bool, true, false, cond, _||_}
+use lib.Dec.{eqb}
 use lib.IntN.{pos}
 use lib.Signed.{leZ, ltZ}
 use Rattle.interval.specs.declared.Interval.{Interval}
 use Rattle.sheet.specs.declared.Record.{Record}
 use Rattle.sheet.specs.declared.Record.the-variants.{Constant, X, Y, Z, Sum, Difference, Product, Square, Face, Both, Either, Complement}
 use Rattle.colour.specs.declared.State.{State}
-use Rattle.colour.specs.declared.State.the-variants.{Mixed, In, Out, Single, Comp}
+use Rattle.colour.specs.declared.State.the-variants.{Out, In, Single, Comp, Mixed}
 
 abbrev pub isIn : State → Bool
-isIn Mixed = false
-isIn In = true
 isIn Out = false
+isIn In = true
 isIn (Single f) = false
 isIn (Comp f) = false
+isIn Mixed = false
 
 abbrev pub isOut : State → Bool
-isOut Mixed = false
-isOut In = false
 isOut Out = true
+isOut In = false
 isOut (Single f) = false
 isOut (Comp f) = false
+isOut Mixed = false
 
 -- face with bounds [a,b]: In if b <= 0; Out if a > 0; else Single(that face)
 unfoldable pub faceState : Interval → ℕ → State
@@ -29,11 +30,11 @@ faceState i f = cond (leZ (i .high) (pos 0)) In (cond (ltZ (pos 0) (i .low)) Out
 
 -- complement: In and Out change places; Single(f) and Comp(f) change places; Mixed stays
 abbrev pub complementOf : State → State
-complementOf Mixed = Mixed
-complementOf In = Out
 complementOf Out = In
+complementOf In = Out
 complementOf (Single f) = Comp f
 complementOf (Comp f) = Single f
+complementOf Mixed = Mixed
 
 -- both: Out if either is Out; otherwise if one is In, the other's state; otherwise Mixed
 unfoldable pub bothOf : State → State → State
@@ -60,16 +61,20 @@ stateOf n i s t (Complement a) = complementOf s
 
 -- The solid's state gives the class: Out white 0, In black 1, Single terminal 2, Comp terminal 3, Mixed gray 4.
 abbrev pub classOf : State → ℕ
-classOf Mixed = 4
-classOf In = 1
 classOf Out = 0
+classOf In = 1
 classOf (Single f) = 2
 classOf (Comp f) = 3
+classOf Mixed = 4
 
 -- face number: 0 unless class 2 or 3
 abbrev pub faceOf : State → ℕ
-faceOf Mixed = 0
-faceOf In = 0
 faceOf Out = 0
+faceOf In = 0
 faceOf (Single f) = f
 faceOf (Comp f) = f
+faceOf Mixed = 0
+
+-- the state of a class and a face number
+unfoldable pub stateBy : ℕ → ℕ → State
+stateBy class face = cond (eqb class 0) Out (cond (eqb class 1) In (cond (eqb class 2) (Single face) (cond (eqb class 3) (Comp face) Mixed)))

@@ -3,10 +3,13 @@
 ghost use mathlib.Core.Path.{_≡_};
 ghost use Prim.Native.Nat.{_+_, _≤_, _^_};
 ghost use lib.IntN.{natAbs};
-ghost use Rattle.interval.specs.Limit.{SmallEnds, boundedOf};
+ghost use lib.ListN.{length, getD};
+ghost use Rattle.interval.specs.Limit.{boundedOf};
+ghost use Rattle.sheet.specs.Operands.{firstOf, secondOf};
 ghost use Rattle.cube.specs.Limits.{Near};
 ghost use Rattle.colour.specs.Bounds.{across, boundsOf};
-ghost use Rattle.colour.specs.States.{stateOf};
+ghost use Rattle.colour.specs.States.{stateBy, stateOf};
+ghost use Rattle.colour.specs.Held.{Held, heldAt};
 use crate::State;
 use crate::states;
 use cube::Cube;
@@ -25,10 +28,21 @@ fn across(low: i32, side: u32) -> Interval
     }
 }
 
-// The bounds of a record, where i and j are those of its operands.
-pub fn bounds(r: Record, q: Cube, i: Interval, j: Interval) -> Bounded
-    requires { ⌜ Near 0 q ⌝ ∗ ⌜ SmallEnds i ⌝ ∗ ⌜ SmallEnds j ⌝ }
-    ensures { λ b. ⌜ b ≡ boundedOf (boundsOf q i j r) ⌝ }
+// The bounds of record a.
+fn held_at<'a>(low: &'a [i64], high: &'a [i64], a: u8) -> Interval
+    requires { ⌜ Held (now low) (now high) ⌝ }
+    ensures { λ r. ⌜ r ≡ heldAt (now (low .entry)) (now (high .entry)) a ⌝ }
+{
+    Interval {
+        low: low[a as usize],
+        high: high[a as usize],
+    }
+}
+
+// The bounds of a record, from the bounds of those before it.
+pub fn bounds<'a>(r: Record, q: Cube, low: &'a [i64], high: &'a [i64]) -> Bounded
+    requires { ⌜ Near 0 q ⌝ ∗ ⌜ Held (now low) (now high) ⌝ }
+    ensures { λ b. ⌜ b ≡ boundedOf (boundsOf q (heldAt (now (low .entry)) (now (high .entry)) (firstOf r)) (heldAt (now (low .entry)) (now (high .entry)) (secondOf r)) r) ⌝ }
 {
     match r {
         Record::Constant(c) => Bounded::Within(Interval {
@@ -38,10 +52,10 @@ pub fn bounds(r: Record, q: Cube, i: Interval, j: Interval) -> Bounded
         Record::X => Bounded::Within(across(q.x, q.side)),
         Record::Y => Bounded::Within(across(q.y, q.side)),
         Record::Z => Bounded::Within(across(q.z, q.side)),
-        Record::Sum(_, _) => i.sum(j),
-        Record::Difference(_, _) => i.difference(j),
-        Record::Product(_, _) => i.product(j),
-        Record::Square(_) => i.square(),
+        Record::Sum(a, b) => held_at(low, high, a).sum(held_at(low, high, b)),
+        Record::Difference(a, b) => held_at(low, high, a).difference(held_at(low, high, b)),
+        Record::Product(a, b) => held_at(low, high, a).product(held_at(low, high, b)),
+        Record::Square(a) => held_at(low, high, a).square(),
         Record::Face(_) => Bounded::Within(Interval { low: 0, high: 0 }),
         Record::Both(_, _) => Bounded::Within(Interval { low: 0, high: 0 }),
         Record::Either(_, _) => Bounded::Within(Interval { low: 0, high: 0 }),
@@ -49,9 +63,17 @@ pub fn bounds(r: Record, q: Cube, i: Interval, j: Interval) -> Bounded
     }
 }
 
-// The state of record n, where i are the bounds of its first operand, s and t the states of its operands.
-pub fn state(r: Record, n: u8, i: Interval, s: State, t: State) -> State
-    ensures { λ k. ⌜ k ≡ stateOf n i s t r ⌝ }
+// The state of record n, from the bounds and the states of those before it.
+pub fn state<'a>(
+    r: Record,
+    n: u8,
+    low: &'a [i64],
+    high: &'a [i64],
+    classes: &[u8],
+    faces: &[u8],
+) -> State
+    requires { ⌜ Held (now low) (now high) ⌝ ∗ ⌜ length (now classes) ≡ 256 ⌝ ∗ ⌜ length (now faces) ≡ 256 ⌝ }
+    ensures { λ k. ⌜ k ≡ stateOf n (heldAt (now (low .entry)) (now (high .entry)) (firstOf r)) (stateBy (getD (now (classes .entry)) (firstOf r) 0) (getD (now (faces .entry)) (firstOf r) 0)) (stateBy (getD (now (classes .entry)) (secondOf r) 0) (getD (now (faces .entry)) (secondOf r) 0)) r ⌝ }
 {
     match r {
         Record::Constant(_) => State::Mixed,
@@ -62,9 +84,13 @@ pub fn state(r: Record, n: u8, i: Interval, s: State, t: State) -> State
         Record::Difference(_, _) => State::Mixed,
         Record::Product(_, _) => State::Mixed,
         Record::Square(_) => State::Mixed,
-        Record::Face(_) => states::face_state(i, n),
-        Record::Both(_, _) => s.both(t),
-        Record::Either(_, _) => s.either(t),
-        Record::Complement(_) => s.complement(),
+        Record::Face(a) => states::face_state(held_at(low, high, a), n),
+        Record::Both(a, b) => {
+            states::state_at(classes, faces, a).both(states::state_at(classes, faces, b))
+        }
+        Record::Either(a, b) => {
+            states::state_at(classes, faces, a).either(states::state_at(classes, faces, b))
+        }
+        Record::Complement(a) => states::state_at(classes, faces, a).complement(),
     }
 }

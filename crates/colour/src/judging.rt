@@ -7,11 +7,10 @@ ghost use Rattle.cube.specs.Limits.{Near};
 ghost use Rattle.colour.specs.Entries.{judgedOf};
 use crate::Bounds;
 use crate::Judged;
-use crate::State;
 use crate::entries;
+use crate::states;
 use cube::Cube;
 use interval::Bounded;
-use interval::Interval;
 
 // The state of record `which` over a cube, or the first of the sheet's `count` records whose bounds pass the limit. The bounds are filled where they lie.
 pub fn judge(s: &[u8], count: usize, q: Cube, which: u8) -> Judged
@@ -23,31 +22,25 @@ pub fn judge(s: &[u8], count: usize, q: Cube, which: u8) -> Judged
         high: [0; 256],
         count: 0,
     };
-    let mut states = [State::Mixed; 256];
+    let mut classes = [0u8; 256];
+    let mut faces = [0u8; 256];
     let mut at = 3;
     while b.count < count {
         let n = b.count;
         let r = sheet::record_at(s, at);
-        let a = r.first() as usize;
-        let c = r.second() as usize;
-        let i = Interval {
-            low: b.low[a],
-            high: b.high[a],
-        };
-        let j = Interval {
-            low: b.low[c],
-            high: b.high[c],
-        };
-        let Bounded::Within(v) = entries::bounds(r, q, i, j) else {
+        let next = at + 1 + s[at] as usize;
+        let Bounded::Within(v) = entries::bounds(r, q, &b.low, &b.high) else {
             return Judged::Past(n);
         };
-        states[n] = entries::state(r, n as u8, i, states[a], states[c]);
+        let state = entries::state(r, n as u8, &b.low, &b.high, &classes, &faces);
+        classes[n] = state.class();
+        faces[n] = state.face();
         let low = v.low;
         let high = v.high;
         b.low[n] = low;
         b.high[n] = high;
         b.count = n + 1;
-        at += 1 + s[at] as usize;
+        at = next;
     }
-    Judged::Known(states[which as usize])
+    Judged::Known(states::state_at(&classes, &faces, which))
 }

@@ -6,14 +6,14 @@ mod states;
 
 pub use judging::judge;
 
-// What the bounds over a cube tell of a logical record: nothing, that it holds all over the cube, that it holds nowhere in it, or that it holds there
-// exactly where one face does, or where that face does not.
+// What the bounds over a cube tell of a logical record: that it holds nowhere in the cube, that it holds all over it, that it holds there exactly where one
+// face does, or where that face does not, or nothing. They stand in the order of their classes, 0 to 4.
 pub enum State {
-    Mixed,
-    In,
     Out,
+    In,
     Single(u8),
     Comp(u8),
+    Mixed,
 }
 
 // The bounds of the first `count` records over a cube, held together; each place after them holds zeros.

@@ -1,7 +1,8 @@
 // The rules of states, and the class and face that a state gives a leaf.
 
 ghost use mathlib.Core.Path.{_≡_};
-ghost use Rattle.colour.specs.States.{isIn, isOut, faceState, complementOf, bothOf, eitherOf, classOf, faceOf};
+ghost use lib.ListN.{length, getD};
+ghost use Rattle.colour.specs.States.{isIn, isOut, stateBy, faceState, complementOf, bothOf, eitherOf, classOf, faceOf};
 use crate::State;
 use interval::Interval;
 
@@ -18,16 +19,31 @@ pub fn face_state(bounds: Interval, f: u8) -> State
     State::Single(f)
 }
 
+// The state of a record, where its class and its face stand in two lists.
+pub fn state_at(classes: &[u8], faces: &[u8], a: u8) -> State
+    requires { ⌜ length (now classes) ≡ 256 ⌝ ∗ ⌜ length (now faces) ≡ 256 ⌝ }
+    ensures { λ r. ⌜ r ≡ stateBy (getD (now (classes .entry)) a 0) (getD (now (faces .entry)) a 0) ⌝ }
+{
+    let face = faces[a as usize];
+    match classes[a as usize] {
+        0 => State::Out,
+        1 => State::In,
+        2 => State::Single(face),
+        3 => State::Comp(face),
+        _ => State::Mixed,
+    }
+}
+
 impl State {
     pub fn is_in(self) -> bool
         ensures { λ r. ⌜ r ≡ isIn self ⌝ }
     {
         match self {
-            State::Mixed => false,
-            State::In => true,
             State::Out => false,
+            State::In => true,
             State::Single(_) => false,
             State::Comp(_) => false,
+            State::Mixed => false,
         }
     }
 
@@ -35,11 +51,11 @@ impl State {
         ensures { λ r. ⌜ r ≡ isOut self ⌝ }
     {
         match self {
-            State::Mixed => false,
-            State::In => false,
             State::Out => true,
+            State::In => false,
             State::Single(_) => false,
             State::Comp(_) => false,
+            State::Mixed => false,
         }
     }
 
@@ -47,11 +63,11 @@ impl State {
         ensures { λ r. ⌜ r ≡ complementOf self ⌝ }
     {
         match self {
-            State::Mixed => State::Mixed,
-            State::In => State::Out,
             State::Out => State::In,
+            State::In => State::Out,
             State::Single(f) => State::Comp(f),
             State::Comp(f) => State::Single(f),
+            State::Mixed => State::Mixed,
         }
     }
 
@@ -96,11 +112,11 @@ impl State {
         ensures { λ r. ⌜ r ≡ classOf self ⌝ }
     {
         match self {
-            State::Mixed => 4,
-            State::In => 1,
             State::Out => 0,
+            State::In => 1,
             State::Single(_) => 2,
             State::Comp(_) => 3,
+            State::Mixed => 4,
         }
     }
 
@@ -109,11 +125,11 @@ impl State {
         ensures { λ r. ⌜ r ≡ faceOf self ⌝ }
     {
         match self {
-            State::Mixed => 0,
-            State::In => 0,
             State::Out => 0,
+            State::In => 0,
             State::Single(f) => f,
             State::Comp(f) => f,
+            State::Mixed => 0,
         }
     }
 }

@@ -9,14 +9,14 @@ enum-told c = search needs
 enum-told-2 : tie.Need-enum-told-2
 enum-told-2 c = search needs
 
-enum-told-3 : tie.Need-enum-told-3
-enum-told-3 c = search needs
-
 enum-known-self : tie.Need-enum-known-self
 enum-known-self c = search needs
 
 enum-known-self-2 : tie.Need-enum-known-self-2
 enum-known-self-2 c = search needs
+
+enum-told-3 : tie.Need-enum-told-3
+enum-told-3 c = search needs
 
 returns : tie.Need-returns
 returns c = search needs
@@ -25,13 +25,13 @@ returns-2 : tie.Need-returns-2
 returns-2 c = search needs
 
 returns-3 : tie.Need-returns-3
-returns-3 c = search needs
+returns-3 c = rw (c .before .self .given .1)
 
 returns-4 : tie.Need-returns-4
-returns-4 c = rw (c .before .self .given .1)
+returns-4 c = rw (c .before .self2 .given .1)
 
 returns-5 : tie.Need-returns-5
-returns-5 c = rw (c .before .self2 .given .1)
+returns-5 c = search needs
 
 pub complement-spec : {M : Type 1} → statement M
 complement-spec =
@@ -39,9 +39,9 @@ complement-spec =
     (tie.spec
     enum-told
     enum-told-2
-    enum-told-3
     enum-known-self
     enum-known-self-2
+    enum-told-3
     returns
     returns-2
     returns-3

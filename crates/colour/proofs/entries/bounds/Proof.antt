@@ -1,6 +1,6 @@
 -- `colour::entries::bounds` meets its contract: each kind has its own rule. Assumes nothing.
 use Rattle.colour.proofs.Coordinates.{wide-fits}
-use Rattle.colour.proofs.Arms.{zero-small, constant-arm, x-arm, y-arm, z-arm, sum-arm, difference-arm, product-arm, square-arm, no-face-arm, no-both-arm, no-either-arm, no-complement-arm}
+use Rattle.colour.proofs.Arms.{held-small, constant-arm, x-arm, y-arm, z-arm, sum-arm, difference-arm, product-arm, square-arm, no-face-arm, no-both-arm, no-either-arm, no-complement-arm}
 use borrow.Author.Needs.{needs}
 use Rattle.colour.proofs.entries.bounds.Statement.{statement}
 use Rattle.colour.proofs.entries.bounds.Tie as tie
@@ -8,11 +8,11 @@ use Rattle.colour.proofs.entries.bounds.Tie as tie
 enum-known-r : tie.Need-enum-known-r
 enum-known-r c = search needs
 
-cast-t7 : tie.Need-cast-t7
-cast-t7 c = search (needs, wide-fits)
+cast-t14 : tie.Need-cast-t14
+cast-t14 c = search (needs, wide-fits)
 
-cast-t8 : tie.Need-cast-t8
-cast-t8 c = search (needs, wide-fits)
+cast-t15 : tie.Need-cast-t15
+cast-t15 c = search (needs, wide-fits)
 
 enum-told : tie.Need-enum-told
 enum-told c = search needs
@@ -32,41 +32,66 @@ enum-told-3 c = search needs
 across-requires-3 : tie.Need-across-requires-3
 across-requires-3 c κs = search needs
 
-enum-told-4 : tie.Need-enum-told-4
-enum-told-4 c = search needs
+enum-known-r-2 : tie.Need-enum-known-r-2
+enum-known-r-2 c = search needs
+
+held-at-requires : tie.Need-held-at-requires
+held-at-requires c κs = search needs
+
+held-at-requires-2 : tie.Need-held-at-requires-2
+held-at-requires-2 c κs = search needs
 
 sum-requires : tie.Need-sum-requires
-sum-requires c κs = search needs
+sum-requires c κs =
+    (held-small (c .before .before .before .before .before .args .low .now) (c .before .before .before .before .before .args .high .now) _ _ (c .before .before .before .before .before .pre .1) (c .before .held-at .ensures), held-small (c .before .before .before .before .before .args .low .now) (c .before .before .before .before .before .args .high .now) _ _ (c .before .before .before .before .before .pre .1) (c .held-at2 .ensures))
+
+enum-known-r-3 : tie.Need-enum-known-r-3
+enum-known-r-3 c = search needs
+
+held-at-requires-3 : tie.Need-held-at-requires-3
+held-at-requires-3 c κs = search needs
+
+held-at-requires-4 : tie.Need-held-at-requires-4
+held-at-requires-4 c κs = search needs
+
+difference-requires : tie.Need-difference-requires
+difference-requires c κs =
+    (held-small (c .before .before .before .before .before .args .low .now) (c .before .before .before .before .before .args .high .now) _ _ (c .before .before .before .before .before .pre .1) (c .before .held-at3 .ensures), held-small (c .before .before .before .before .before .args .low .now) (c .before .before .before .before .before .args .high .now) _ _ (c .before .before .before .before .before .pre .1) (c .held-at4 .ensures))
+
+enum-known-r-4 : tie.Need-enum-known-r-4
+enum-known-r-4 c = search needs
+
+held-at-requires-5 : tie.Need-held-at-requires-5
+held-at-requires-5 c κs = search needs
+
+held-at-requires-6 : tie.Need-held-at-requires-6
+held-at-requires-6 c κs = search needs
+
+product-requires : tie.Need-product-requires
+product-requires c κs =
+    (held-small (c .before .before .before .before .before .args .low .now) (c .before .before .before .before .before .args .high .now) _ _ (c .before .before .before .before .before .pre .1) (c .before .held-at5 .ensures), held-small (c .before .before .before .before .before .args .low .now) (c .before .before .before .before .before .args .high .now) _ _ (c .before .before .before .before .before .pre .1) (c .held-at6 .ensures))
+
+enum-known-r-5 : tie.Need-enum-known-r-5
+enum-known-r-5 c = search needs
+
+held-at-requires-7 : tie.Need-held-at-requires-7
+held-at-requires-7 c κs = search needs
+
+square-requires : tie.Need-square-requires
+square-requires c κs =
+    held-small (c .before .before .before .before .args .low .now) (c .before .before .before .before .args .high .now) _ _ (c .before .before .before .before .pre .1) (c .held-at7 .ensures)
+
+enum-told-4 : tie.Need-enum-told-4
+enum-told-4 c = search needs
 
 enum-told-5 : tie.Need-enum-told-5
 enum-told-5 c = search needs
 
-difference-requires : tie.Need-difference-requires
-difference-requires c κs = search needs
-
 enum-told-6 : tie.Need-enum-told-6
 enum-told-6 c = search needs
 
-product-requires : tie.Need-product-requires
-product-requires c κs = search needs
-
 enum-told-7 : tie.Need-enum-told-7
 enum-told-7 c = search needs
-
-square-requires : tie.Need-square-requires
-square-requires c κs = search needs
-
-enum-told-8 : tie.Need-enum-told-8
-enum-told-8 c = search needs
-
-enum-told-9 : tie.Need-enum-told-9
-enum-told-9 c = search needs
-
-enum-told-10 : tie.Need-enum-told-10
-enum-told-10 c = search needs
-
-enum-told-11 : tie.Need-enum-told-11
-enum-told-11 c = search needs
 
 returns : tie.Need-returns
 returns c = search (needs, constant-arm)
@@ -81,54 +106,69 @@ returns-4 : tie.Need-returns-4
 returns-4 c = search (needs, z-arm)
 
 returns-5 : tie.Need-returns-5
-returns-5 c = search (needs, sum-arm)
+returns-5 c =
+    sum-arm (c .before .before .before .before .before .before .args .low .now) (c .before .before .before .before .before .before .args .high .now) _ _ _ _ _ _ _ (c .before .before .before .before .r2 .given .1) (c .before .before .held-at .ensures) (c .before .held-at2 .ensures) (c .sum .ensures)
 
 returns-6 : tie.Need-returns-6
-returns-6 c = search (needs, difference-arm)
+returns-6 c =
+    difference-arm (c .before .before .before .before .before .before .args .low .now) (c .before .before .before .before .before .before .args .high .now) _ _ _ _ _ _ _ (c .before .before .before .before .r3 .given .1) (c .before .before .held-at3 .ensures) (c .before .held-at4 .ensures) (c .difference .ensures)
 
 returns-7 : tie.Need-returns-7
-returns-7 c = search (needs, product-arm)
+returns-7 c =
+    product-arm (c .before .before .before .before .before .before .args .low .now) (c .before .before .before .before .before .before .args .high .now) _ _ _ _ _ _ _ (c .before .before .before .before .r4 .given .1) (c .before .before .held-at5 .ensures) (c .before .held-at6 .ensures) (c .product .ensures)
 
 returns-8 : tie.Need-returns-8
-returns-8 c = search (needs, square-arm)
+returns-8 c =
+    square-arm (c .before .before .before .before .before .args .low .now) (c .before .before .before .before .before .args .high .now) _ _ _ _ _ (c .before .before .before .r5 .given .1) (c .before .held-at7 .ensures) (c .square .ensures)
 
 returns-9 : tie.Need-returns-9
-returns-9 c = search (needs, no-face-arm)
+returns-9 c =
+    no-face-arm (c .before .before .args .low .now) (c .before .before .args .high .now) _ _ _ (c .enum-told4 .given .1)
 
 returns-10 : tie.Need-returns-10
-returns-10 c = search (needs, no-both-arm)
+returns-10 c =
+    no-both-arm (c .before .before .args .low .now) (c .before .before .args .high .now) _ _ _ _ (c .enum-told5 .given .1)
 
 returns-11 : tie.Need-returns-11
-returns-11 c = search (needs, no-either-arm)
+returns-11 c =
+    no-either-arm (c .before .before .args .low .now) (c .before .before .args .high .now) _ _ _ _ (c .enum-told6 .given .1)
 
 returns-12 : tie.Need-returns-12
-returns-12 c = search (needs, no-complement-arm)
+returns-12 c =
+    no-complement-arm (c .before .before .args .low .now) (c .before .before .args .high .now) _ _ _ (c .enum-told7 .given .1)
 
 pub bounds-spec : {M : Type 1} → statement M
 bounds-spec =
     tie.close
     (tie.spec
     enum-known-r
-    cast-t7
-    cast-t8
+    cast-t14
+    cast-t15
     enum-told
     across-requires
     enum-told-2
     across-requires-2
     enum-told-3
     across-requires-3
-    enum-told-4
+    enum-known-r-2
+    held-at-requires
+    held-at-requires-2
     sum-requires
-    enum-told-5
+    enum-known-r-3
+    held-at-requires-3
+    held-at-requires-4
     difference-requires
-    enum-told-6
+    enum-known-r-4
+    held-at-requires-5
+    held-at-requires-6
     product-requires
-    enum-told-7
+    enum-known-r-5
+    held-at-requires-7
     square-requires
-    enum-told-8
-    enum-told-9
-    enum-told-10
-    enum-told-11
+    enum-told-4
+    enum-told-5
+    enum-told-6
+    enum-told-7
     returns
     returns-2
     returns-3

@@ -28,65 +28,95 @@ enum-told-7 c = search needs
 enum-told-8 : tie.Need-enum-told-8
 enum-told-8 c = search needs
 
-enum-told-9 : tie.Need-enum-told-9
-enum-told-9 c = search needs
+enum-known-r : tie.Need-enum-known-r
+enum-known-r c = search needs
+
+held-at-requires : tie.Need-held-at-requires
+held-at-requires c κs = search needs
 
 face-state-requires : tie.Need-face-state-requires
 face-state-requires c κs = search needs
 
-enum-told-10 : tie.Need-enum-told-10
-enum-told-10 c = search needs
+enum-known-r-2 : tie.Need-enum-known-r-2
+enum-known-r-2 c = search needs
+
+state-at-requires : tie.Need-state-at-requires
+state-at-requires c κs = search needs
+
+state-at-requires-2 : tie.Need-state-at-requires-2
+state-at-requires-2 c κs = search needs
 
 both-requires : tie.Need-both-requires
 both-requires c κs = search needs
 
-enum-told-11 : tie.Need-enum-told-11
-enum-told-11 c = search needs
+enum-known-r-3 : tie.Need-enum-known-r-3
+enum-known-r-3 c = search needs
+
+state-at-requires-3 : tie.Need-state-at-requires-3
+state-at-requires-3 c κs = search needs
+
+state-at-requires-4 : tie.Need-state-at-requires-4
+state-at-requires-4 c κs = search needs
 
 either-requires : tie.Need-either-requires
 either-requires c κs = search needs
 
-enum-told-12 : tie.Need-enum-told-12
-enum-told-12 c = search needs
+enum-known-r-4 : tie.Need-enum-known-r-4
+enum-known-r-4 c = search needs
+
+state-at-requires-5 : tie.Need-state-at-requires-5
+state-at-requires-5 c κs = search needs
 
 complement-requires : tie.Need-complement-requires
 complement-requires c κs = search needs
 
 returns : tie.Need-returns
-returns c = search (needs, no-constant-arm)
+returns c =
+    no-constant-arm (c .before .before .before .before .args .low .now) (c .before .before .before .before .args .high .now) (c .before .before .before .before .args .classes .now) (c .before .before .before .before .args .faces .now) _ _ _ (c .enum-told .given .1)
 
 returns-2 : tie.Need-returns-2
-returns-2 c = search (needs, no-x-arm)
+returns-2 c =
+    no-x-arm (c .before .before .before .before .args .low .now) (c .before .before .before .before .args .high .now) (c .before .before .before .before .args .classes .now) (c .before .before .before .before .args .faces .now) _ _ (c .enum-told2 .given .1)
 
 returns-3 : tie.Need-returns-3
-returns-3 c = search (needs, no-y-arm)
+returns-3 c =
+    no-y-arm (c .before .before .before .before .args .low .now) (c .before .before .before .before .args .high .now) (c .before .before .before .before .args .classes .now) (c .before .before .before .before .args .faces .now) _ _ (c .enum-told3 .given .1)
 
 returns-4 : tie.Need-returns-4
-returns-4 c = search (needs, no-z-arm)
+returns-4 c =
+    no-z-arm (c .before .before .before .before .args .low .now) (c .before .before .before .before .args .high .now) (c .before .before .before .before .args .classes .now) (c .before .before .before .before .args .faces .now) _ _ (c .enum-told4 .given .1)
 
 returns-5 : tie.Need-returns-5
-returns-5 c = search (needs, no-sum-arm)
+returns-5 c =
+    no-sum-arm (c .before .before .before .before .args .low .now) (c .before .before .before .before .args .high .now) (c .before .before .before .before .args .classes .now) (c .before .before .before .before .args .faces .now) _ _ _ _ (c .enum-told5 .given .1)
 
 returns-6 : tie.Need-returns-6
-returns-6 c = search (needs, no-difference-arm)
+returns-6 c =
+    no-difference-arm (c .before .before .before .before .args .low .now) (c .before .before .before .before .args .high .now) (c .before .before .before .before .args .classes .now) (c .before .before .before .before .args .faces .now) _ _ _ _ (c .enum-told6 .given .1)
 
 returns-7 : tie.Need-returns-7
-returns-7 c = search (needs, no-product-arm)
+returns-7 c =
+    no-product-arm (c .before .before .before .before .args .low .now) (c .before .before .before .before .args .high .now) (c .before .before .before .before .args .classes .now) (c .before .before .before .before .args .faces .now) _ _ _ _ (c .enum-told7 .given .1)
 
 returns-8 : tie.Need-returns-8
-returns-8 c = search (needs, no-square-arm)
+returns-8 c =
+    no-square-arm (c .before .before .before .before .args .low .now) (c .before .before .before .before .args .high .now) (c .before .before .before .before .args .classes .now) (c .before .before .before .before .args .faces .now) _ _ _ (c .enum-told8 .given .1)
 
 returns-9 : tie.Need-returns-9
-returns-9 c = search (needs, face-arm)
+returns-9 c =
+    face-arm (c .before .before .before .before .before .before .before .args .low .now) (c .before .before .before .before .before .before .before .args .high .now) (c .before .before .before .before .before .before .before .args .classes .now) (c .before .before .before .before .before .before .before .args .faces .now) _ _ _ _ _ (c .before .before .before .r .given .1) (c .before .held-at .ensures) (c .face-state .ensures)
 
 returns-10 : tie.Need-returns-10
-returns-10 c = search (needs, both-arm)
+returns-10 c =
+    both-arm (c .before .before .before .before .before .before .before .before .args .low .now) (c .before .before .before .before .before .before .before .before .args .high .now) (c .before .before .before .before .before .before .before .before .args .classes .now) (c .before .before .before .before .before .before .before .before .args .faces .now) _ _ _ _ _ _ _ (c .before .before .before .before .r2 .given .1) (c .before .before .state-at .ensures) (c .before .state-at2 .ensures) (c .both .ensures)
 
 returns-11 : tie.Need-returns-11
-returns-11 c = search (needs, either-arm)
+returns-11 c =
+    either-arm (c .before .before .before .before .before .before .before .before .args .low .now) (c .before .before .before .before .before .before .before .before .args .high .now) (c .before .before .before .before .before .before .before .before .args .classes .now) (c .before .before .before .before .before .before .before .before .args .faces .now) _ _ _ _ _ _ _ (c .before .before .before .before .r3 .given .1) (c .before .before .state-at3 .ensures) (c .before .state-at4 .ensures) (c .either .ensures)
 
 returns-12 : tie.Need-returns-12
-returns-12 c = search (needs, complement-arm)
+returns-12 c =
+    complement-arm (c .before .before .before .before .before .before .before .args .low .now) (c .before .before .before .before .before .before .before .args .high .now) (c .before .before .before .before .before .before .before .args .classes .now) (c .before .before .before .before .before .before .before .args .faces .now) _ _ _ _ _ (c .before .before .before .r4 .given .1) (c .before .state-at5 .ensures) (c .complement .ensures)
 
 pub state-spec : {M : Type 1} → statement M
 state-spec =
@@ -100,13 +130,19 @@ state-spec =
     enum-told-6
     enum-told-7
     enum-told-8
-    enum-told-9
+    enum-known-r
+    held-at-requires
     face-state-requires
-    enum-told-10
+    enum-known-r-2
+    state-at-requires
+    state-at-requires-2
     both-requires
-    enum-told-11
+    enum-known-r-3
+    state-at-requires-3
+    state-at-requires-4
     either-requires
-    enum-told-12
+    enum-known-r-4
+    state-at-requires-5
     complement-requires
     returns
     returns-2

@@ -1,0 +1,19 @@
+-- What is read of bounds that are held together in two lists of ends. Only inner contracts cite this. Assumes nothing: these are definitions.
+use Prim.Native.Nat.{ℕ}
+use mathlib.Core.Path.{_≡_}
+use mathlib.Core.List.{List}
+use lib.IntN.{ℤ, pos}
+use lib.ListN.{length, getD}
+use Rattle.interval.specs.declared.Interval.{Interval}
+use Rattle.interval.specs.Rules.{from}
+use Rattle.interval.specs.Limit.{SmallEnds}
+
+-- the bounds of record a
+abbrev pub heldAt : List ℤ → List ℤ → ℕ → Interval
+heldAt low high a = from (getD low a (pos 0)) (getD high a (pos 0))
+
+-- 256 of each, all within the limit
+pub record Held (low high : List ℤ) : Type 0 where
+  pub lows : length low ≡ 256
+  pub highs : length high ≡ 256
+  pub small : (a : ℕ) → SmallEnds (heldAt low high a)

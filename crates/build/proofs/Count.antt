@@ -1,8 +1,8 @@
 -- Counting the leaves below a cube, as the recursion meets it: a cube by itself, then one child after the other. Assumes nothing.
 use mathlib.Core.Path.{_≡_, refl, sym, ap, _∙_}
-use mathlib.Core.Bool.{true, false}
+use mathlib.Core.Bool.{false}
 use mathlib.Core.List.{List, [], _∷_, _++_}
-use Prim.Native.Nat.{ℕ, suc, _+_, _-_, _^_, _≤_, _<_}
+use Prim.Native.Nat.{ℕ, _+_, _-_, _^_, _≤_, _<_}
 use native.Mathlib.Omega.{arith}
 use lib.ListN.{length}
 use Rattle.sheet.specs.declared.Record.{Record}
@@ -13,11 +13,11 @@ use Rattle.colour.specs.Entries.{judgedOf}
 use Rattle.build.specs.declared.Counted.{Counted}
 use Rattle.build.specs.declared.Counted.the-variants.{Leaves, Past}
 use Rattle.build.specs.Tree.{upto}
-use Rattle.build.specs.Solid.{isGray, leavesOf, pastOf, pastsOf}
+use Rattle.build.specs.Solid.{leavesOf, pastOf, pastsOf}
 use Rattle.build.specs.Build.{onFirst}
 use Rattle.build.specs.Counting.{grayJudged, aloneOf, countedOf}
-use Rattle.build.proofs.Tree.{upto-none, upto-more, upto-length, upto-most, Begins, begins-more, begins-upto, begins-first}
-use Rattle.build.proofs.Cubes.{kidLeaves, kidPasts, kid-leaves, kid-pasts, leaves-split, pasts-split, leaves-end, leaves-flat, pasts-end, pasts-flat, pasts-own, leaves-few, cases, flat-is}
+use Rattle.build.proofs.Tree.{upto-none, upto-more, upto-length, upto-most, Begins, begins-upto, begins-first}
+use Rattle.build.proofs.Cubes.{kidLeaves, kidPasts, kid-leaves, kid-pasts, leaves-split, pasts-split, leaves-end, leaves-flat, pasts-end, pasts-flat, pasts-own, leaves-few, cases, flat-is, Split}
 
 -- ---- what an answer tells
 first-past : (l : List ℕ) (m n : ℕ) → onFirst l Past (Leaves m) ≡ Past n → Begins n l
@@ -60,21 +60,25 @@ module _ (rs : List Record) (left : ℕ) (q : Cube) where
 
 -- ---- the children: k of them were counted, and no record passes the limit there
 pub record Counting (rs : List Record) (left : ℕ) (q : Cube) (total k : ℕ) : Type 0 where
+  pub split : Split rs left q
   pub few : k ≤ 8
   pub none : upto (kidPasts rs left q) k ≡ []
   pub same : total ≡ length (upto (kidLeaves rs left q) k)
 
-pub counting-start : (rs : List Record) (left : ℕ) (q : Cube) → Counting rs left q 0 0
-counting-start rs left q = record { few = omega arith; none = upto-none (kidPasts rs left q); same = sym (ap length (upto-none (kidLeaves rs left q))) }
+pub counting-start : (rs : List Record) (left : ℕ) (q : Cube) → Split rs left q → Counting rs left q 0 0
+counting-start rs left q h = record { split = h; few = omega arith; none = upto-none (kidPasts rs left q); same = sym (ap length (upto-none (kidLeaves rs left q))) }
 
-module _ (rs : List Record) (left : ℕ) (q : Cube) (l : 0 < left) (g : isGray rs q ≡ true) (none : pastOf rs q ≡ []) (total k : ℕ) (w : Counting rs left q total k) where
+module _ (rs : List Record) (left : ℕ) (q : Cube) (total k : ℕ) (w : Counting rs left q total k) where
   own : pastsOf rs left q ≡ upto (kidPasts rs left q) 8
-  own = pasts-split rs left q l g ∙ ap (λ (x : List ℕ). x ++ upto (kidPasts rs left q) 8) none
+  own = pasts-split rs left q (w .split .deep) (w .split .gray) ∙ ap (λ (x : List ℕ). x ++ upto (kidPasts rs left q) 8) (w .split .none)
+
+  leaves-are : leavesOf rs left q ≡ upto (kidLeaves rs left q) 8
+  leaves-are = leaves-split rs left q (w .split .deep) (w .split .gray)
 
   pub counted-all : 8 ≤ k → Leaves total ≡ countedOf rs left q
   counted-all h =
       let e : k ≡ 8 = omega (arith, w .few) in
-      counts-leaves rs left q total (own ∙ (rw e at (w .none))) (rw (leaves-split rs left q l g) (rw e at (w .same)))
+      counts-leaves rs left q total (own ∙ (rw e at (w .none))) (rw leaves-are (rw e at (w .same)))
 
   module _ (more : k < 8) (child : Cube) (is : child ≡ childOf q k) (c : Counted) (e : c ≡ countedOf rs (left - 1) child) where
     told : c ≡ countedOf rs (left - 1) (childOf q k)
@@ -93,7 +97,7 @@ module _ (rs : List Record) (left : ℕ) (q : Cube) (l : 0 < left) (g : isGray r
       next-is = omega (arith, w .same, child-tells .1, upto-length (kidLeaves rs left q) k)
 
       pub counting-room : left ≤ 10 → total + n ≤ 2 ^ 30
-      counting-room t = omega (arith, next-is, upto-most (kidLeaves rs left q) (k + 1) 8 (omega arith), ap length (leaves-split rs left q l g), leaves-few rs left q t)
+      counting-room t = omega (arith, next-is, upto-most (kidLeaves rs left q) (k + 1) 8 (omega arith), ap length leaves-are, leaves-few rs left q t)
 
       pub counting-next : Counting rs left q (total + n) (k + 1)
-      counting-next = record { few = omega arith; none = upto-more (kidPasts rs left q) k ∙ rw (w .none) (child-tells .0); same = next-is }
+      counting-next = record { split = w .split; few = omega arith; none = upto-more (kidPasts rs left q) k ∙ rw (w .none) (child-tells .0); same = next-is }

@@ -1,11 +1,11 @@
 -- What a cube that was judged tells: its state, whether a record passes the limit over it, and what it gives by itself. Assumes nothing.
 use mathlib.Core.Path.{_≡_, refl, sym, ap, _∙_}
-use mathlib.Core.Bool.{Bool, true, false, cond}
+use mathlib.Core.Bool.{Bool, true, false}
 use mathlib.Core.List.{List, [], _∷_, _++_}
 use Prim.Native.Nat.{ℕ, zero, suc, _+_, _-_, _^_, _≤_, _<_}
 use native.Mathlib.Nat.{zero-lt-suc, le-trans, pow-le-pow-right}
 use native.Mathlib.Omega.{arith}
-use lib.Dec.{eqb, ltb}
+use lib.Dec.{ltb}
 use lib.ListN.{length, getD}
 use Rattle.integers.proofs.Order.{by-test}
 use Rattle.sheet.specs.declared.Record.{Record}
@@ -15,12 +15,17 @@ use Rattle.zonemap.specs.declared.Leaf.{Leaf}
 use Rattle.colour.specs.declared.State.{State}
 use Rattle.colour.specs.declared.Judged.{Judged}
 use Rattle.colour.specs.declared.Judged.the-variants.{Known, Past}
-use Rattle.colour.specs.States.{classOf}
 use Rattle.colour.specs.Entries.{blank, entries, beforePast, judgedOf}
 use Rattle.build.specs.Tree.{upto}
-use Rattle.build.specs.Solid.{solidState, isGray, leafBy, leafOf, leavesOf, pastOf, pastsOf}
+use Rattle.build.specs.Solid.{solidState, isGray, leafOf, leavesOf, pastOf, pastsOf}
 use Rattle.build.specs.Counting.{grayJudged, shownOf}
 use Rattle.build.proofs.Tree.{kid, visit-end, visit-flat, visit-gray, visit-most, Begins, begins-more}
+
+-- a cube that is split, and over which no record passes the limit
+pub record Split (rs : List Record) (left : ℕ) (q : Cube) : Type 0 where
+  pub deep : 0 < left
+  pub gray : isGray rs q ≡ true
+  pub none : pastOf rs q ≡ []
 
 module _ (rs : List Record) where
   -- the leaves of child k, and the records past the limit there
@@ -103,14 +108,12 @@ module _ (rs : List Record) where
     pub past-first : (n : ℕ) → j ≡ Past n → pastOf rs q ≡ n ∷ []
     past-first n k = cases (λ p i. let z : _≡_ {A = ℕ} 0 1 = cc in absurd (omega arith)) (λ m p i. p ∙ ap (λ (x : ℕ). x ∷ []) (let z : m ≡ n = cc in z))
 
-    -- gray, as the code tests it
-    module _ (g : grayJudged j ≡ true) where
-      pub gray-none : pastOf rs q ≡ []
-      gray-none = cases (λ p i. p) (λ n p i. let z : false ≡ true = rw i at g in let y : _≡_ {A = ℕ} 0 1 = cc in absurd (omega arith))
-
-      pub gray-is : isGray rs q ≡ true
-      unfolding isGray
-      gray-is = cases (λ p i. rw i at g) (λ n p i. let z : false ≡ true = rw i at g in let y : _≡_ {A = ℕ} 0 1 = cc in absurd (omega arith))
+    -- where the code splits the cube, the definition does
+    pub splits : (left : ℕ) → (left ≡ 0 → ⊥) → grayJudged j ≡ true → Split rs left q
+    unfolding isGray
+    splits left l g =
+        cases (λ p i. record { deep = omega (arith, l); gray = rw i at g; none = p })
+        (λ n p i. let z : false ≡ true = rw i at g in let y : _≡_ {A = ℕ} 0 1 = cc in absurd (omega arith))
 
     -- what is known of it, where no record passes the limit
     module _ (none : pastOf rs q ≡ []) where

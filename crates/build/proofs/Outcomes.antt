@@ -1,7 +1,7 @@
 -- The outcome of building at each test. Assumes nothing.
-use mathlib.Core.Path.{_≡_, refl, sym, ap, _∙_}
-use mathlib.Core.Bool.{Bool, true, false}
-use mathlib.Core.List.{List, [], _∷_, _++_}
+use mathlib.Core.Path.{_≡_, sym, ap, _∙_}
+use mathlib.Core.Bool.{true, false}
+use mathlib.Core.List.{List, [], _∷_}
 use Prim.Native.Nat.{ℕ, _+_, _*_, _^_, _≤_, _<_}
 use native.Mathlib.Nat.{zero-add}
 use native.Mathlib.Omega.{arith}
@@ -30,7 +30,7 @@ use Rattle.build.specs.declared.Counted.{Counted}
 use Rattle.build.specs.declared.Counted.the-variants.{Leaves, Past as PastIn}
 use Rattle.build.specs.declared.Reply.the-variants.{Done, Sheet, Limits, OverRoot, OverSmaller, Short}
 use Rattle.build.specs.Solid.{leavesOf, pastOf, pastsOf}
-use Rattle.build.specs.Build.{Outcome, outcome, onFirst, builtMap, storedOf, solidOf, buildOf}
+use Rattle.build.specs.Build.{Outcome, outcome, builtMap, storedOf, solidOf, buildOf}
 use Rattle.build.specs.Counting.{countedOf}
 use Rattle.build.proofs.Tree.{Begins, begins-first}
 use Rattle.build.proofs.Cubes.{leaves-few, known-none, past-first}

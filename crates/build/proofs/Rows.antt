@@ -2,11 +2,10 @@
 use mathlib.Core.Path.{_≡_, refl, sym, ap, _∙_}
 use mathlib.Core.Bool.{true, false}
 use mathlib.Core.List.{List, [], _∷_, _++_}
-use Prim.Native.Nat.{ℕ, _+_, _-_}
+use Prim.Native.Nat.{ℕ, _-_}
 use native.Mathlib.Omega.{arith}
 use lib.IntN.{pos}
 use lib.ListN.{length, getD, replicate, length-append}
-use lib.Seq.{getD-at}
 use Rattle.bigendian.specs.Numbers.{unsignedAt, signed32, bytesOf, unsigned32}
 use lib.Signed.{leZ, ltZ}
 use Rattle.integers.proofs.Order.{by-test}
@@ -27,9 +26,8 @@ use Rattle.cube.specs.declared.Cube.{Cube}
 use Rattle.cube.specs.Limits.{axisFits, sizesFit, inLimits}
 use Rattle.cube.specs.Cubes.{rootCube, childOf}
 use Rattle.colour.specs.Bounds.{across, boundsOf}
-use Rattle.colour.specs.declared.State.{State}
 use Rattle.colour.specs.declared.State.the-variants.{In, Out, Single}
-use Rattle.colour.specs.States.{faceState, bothOf, eitherOf, stateOf}
+use Rattle.colour.specs.States.{faceState, bothOf, stateOf}
 use Rattle.colour.specs.Entries.{Entry, blank, entryOf, entries, beforePast}
 use Rattle.zonemap.specs.declared.Leaf.{Leaf}
 use Rattle.zonemap.specs.Map.{leafBytes, leavesBytes, cornerBytes, headerOf, mapOf}
@@ -97,58 +95,34 @@ unfolding builtMap mapOf headerOf cornerBytes bytesOf unsigned32 leavesBytes lea
 length-2 = ap (λ (ls : List Leaf). length (mapOf (stepRoot 2) ls)) depth-2
 
 -- ---- what building answers
--- the sheet is good, the root is in its limits, and no record passes the limit
-step-build : (d : ℕ) → inLimits (stepRoot d) ≡ true → pastOf stepRecords (rootCube (stepRoot d)) ≡ [] → pastsOf stepRecords d (rootCube (stepRoot d)) ≡ [] → (out : List ℕ)
-    → buildOf stepSheet (stepRoot d) out ≡ storedOf (builtMap stepRecords (stepRoot d)) out
+-- the root is in its limits, and no record passes the limit
+abbrev Plain : ℕ → Type 0
+Plain d = (inLimits (stepRoot d) ≡ true) × (pastOf stepRecords (rootCube (stepRoot d)) ≡ []) × (pastsOf stepRecords d (rootCube (stepRoot d)) ≡ [])
+
+plain-0 : Plain 0
+unfolding inLimits sizesFit axisFits pastOf pastsOf visit upto isGray solidState along onward entryOf boundsOf stateOf across sum difference faceState bothOf rootCube childOf beforePast isWithin isSmall
+plain-0 = (refl, refl, refl)
+
+plain-1 : Plain 1
+unfolding inLimits sizesFit axisFits pastOf pastsOf visit upto isGray solidState along onward entryOf boundsOf stateOf across sum difference faceState bothOf rootCube childOf beforePast isWithin isSmall
+plain-1 = (refl, refl, refl)
+
+plain-2 : Plain 2
+unfolding inLimits sizesFit axisFits pastOf pastsOf visit upto isGray solidState along onward entryOf boundsOf stateOf across sum difference faceState bothOf rootCube childOf beforePast isWithin isSmall
+plain-2 = (refl, refl, refl)
+
+step-build : (d : ℕ) → Plain d → (out : List ℕ) → buildOf stepSheet (stepRoot d) out ≡ storedOf (builtMap stepRecords (stepRoot d)) out
 unfolding buildOf solidOf
-step-build d l p q out =
-    let c : checkOf stepSheet ≡ Good 8 = step-check in
-    rw (c, step-records, l, p, q)
-
-inside-0 : inLimits (stepRoot 0) ≡ true
-unfolding inLimits sizesFit axisFits
-inside-0 = refl
-
-none-0 : pastOf stepRecords (rootCube (stepRoot 0)) ≡ []
-unfolding pastOf pastsOf visit upto isGray solidState along onward entryOf boundsOf stateOf across sum difference faceState bothOf rootCube childOf beforePast isWithin isSmall
-none-0 = refl
-
-no-smaller-0 : pastsOf stepRecords 0 (rootCube (stepRoot 0)) ≡ []
-unfolding pastOf pastsOf visit upto isGray solidState along onward entryOf boundsOf stateOf across sum difference faceState bothOf rootCube childOf beforePast isWithin isSmall
-no-smaller-0 = refl
-
-inside-1 : inLimits (stepRoot 1) ≡ true
-unfolding inLimits sizesFit axisFits
-inside-1 = refl
-
-none-1 : pastOf stepRecords (rootCube (stepRoot 1)) ≡ []
-unfolding pastOf pastsOf visit upto isGray solidState along onward entryOf boundsOf stateOf across sum difference faceState bothOf rootCube childOf beforePast isWithin isSmall
-none-1 = refl
-
-no-smaller-1 : pastsOf stepRecords 1 (rootCube (stepRoot 1)) ≡ []
-unfolding pastOf pastsOf visit upto isGray solidState along onward entryOf boundsOf stateOf across sum difference faceState bothOf rootCube childOf beforePast isWithin isSmall
-no-smaller-1 = refl
-
-inside-2 : inLimits (stepRoot 2) ≡ true
-unfolding inLimits sizesFit axisFits
-inside-2 = refl
-
-none-2 : pastOf stepRecords (rootCube (stepRoot 2)) ≡ []
-unfolding pastOf pastsOf visit upto isGray solidState along onward entryOf boundsOf stateOf across sum difference faceState bothOf rootCube childOf beforePast isWithin isSmall
-none-2 = refl
-
-no-smaller-2 : pastsOf stepRecords 2 (rootCube (stepRoot 2)) ≡ []
-unfolding pastOf pastsOf visit upto isGray solidState along onward entryOf boundsOf stateOf across sum difference faceState bothOf rootCube childOf beforePast isWithin isSmall
-no-smaller-2 = refl
+step-build d p out = rw (step-check, step-records, p .0, p .1, p .2)
 
 -- S at d 0: 22 bytes
 pub build-0 : (out : List ℕ) → buildOf stepSheet (stepRoot 0) out ≡ storedOf (mapOf (stepRoot 0) (leaf 0 4 0 ∷ [])) out
 unfolding builtMap
-build-0 out = step-build 0 inside-0 none-0 no-smaller-0 out ∙ ap (λ (ls : List Leaf). storedOf (mapOf (stepRoot 0) ls) out) depth-0
+build-0 out = step-build 0 plain-0 out ∙ ap (λ (ls : List Leaf). storedOf (mapOf (stepRoot 0) ls) out) depth-0
 
 -- S at d 1: the 43 bytes above
 pub build-1 : (out : List ℕ) → buildOf stepSheet (stepRoot 1) out ≡ storedOf stepMap out
-build-1 out = step-build 1 inside-1 none-1 no-smaller-1 out ∙ ap (λ (m : List ℕ). storedOf m out) map-1
+build-1 out = step-build 1 plain-1 out ∙ ap (λ (m : List ℕ). storedOf m out) map-1
 
 -- a 42-byte buffer gives 8 with 43
 pub short-1 : buildOf stepSheet (stepRoot 1) (replicate 42 0) ≡ outcome (Short 43) (replicate 42 0)
@@ -162,7 +136,7 @@ fits-1 = build-1 (replicate 43 0)
 
 -- S at d 2: 85 bytes
 pub build-2 : (out : List ℕ) → buildOf stepSheet (stepRoot 2) out ≡ storedOf (builtMap stepRecords (stepRoot 2)) out
-build-2 out = step-build 2 inside-2 none-2 no-smaller-2 out
+build-2 out = step-build 2 plain-2 out
 
 -- ---- a sheet whose last record is a face
 module _ (rs : List Record) (a : ℕ) where

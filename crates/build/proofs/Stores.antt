@@ -1,7 +1,7 @@
 -- Writing the leaves below a cube, as the recursion meets it: a cube by itself, then one child after the other. Assumes nothing.
-use mathlib.Core.Path.{_≡_, refl, sym, ap, _∙_}
-use mathlib.Core.Bool.{true, false}
-use mathlib.Core.List.{List, [], _∷_, _++_}
+use mathlib.Core.Path.{_≡_, sym, ap, _∙_}
+use mathlib.Core.Bool.{false}
+use mathlib.Core.List.{List, [], _∷_}
 use Prim.Native.Nat.{ℕ, suc, _+_, _-_, _*_, _≤_, _<_}
 use native.Mathlib.Omega.{arith}
 use lib.ListN.{length}
@@ -16,10 +16,10 @@ use Rattle.zonemap.specs.declared.Leaf.{Leaf}
 use Rattle.zonemap.specs.Map.{leafBytes, leavesBytes}
 use Rattle.zonemap.proofs.Bytes.{leaves-bytes-length, leaves-bytes-append, sets-append}
 use Rattle.build.specs.Tree.{upto}
-use Rattle.build.specs.Solid.{solidState, isGray, leafBy, leafOf, leavesOf, pastOf, pastsOf}
+use Rattle.build.specs.Solid.{leafBy, leafOf, leavesOf, pastOf, pastsOf}
 use Rattle.build.specs.Counting.{grayJudged, shownOf}
-use Rattle.build.proofs.Tree.{upto-none, upto-more, upto-length, upto-most, upto-nothing, none-right, Begins}
-use Rattle.build.proofs.Cubes.{kidLeaves, kidPasts, kid-leaves, kid-pasts, leaves-split, pasts-split, leaves-end, leaves-flat, pasts-own, cases, shown-is, flat-is}
+use Rattle.build.proofs.Tree.{upto-none, upto-more, upto-length, upto-most, upto-nothing, none-right}
+use Rattle.build.proofs.Cubes.{kidLeaves, kidPasts, kid-leaves, kid-pasts, leaves-split, pasts-split, leaves-end, leaves-flat, pasts-own, cases, shown-is, flat-is, Split}
 
 -- the leaves ls, written into d from `at` on: the place after them, and the bytes
 abbrev Put : List Leaf → List ℕ → ℕ → ℕ → List ℕ → Type 0
@@ -58,19 +58,23 @@ module _ (rs : List Record) (left : ℕ) (q : Cube) (none : pastsOf rs left q �
 
 -- ---- the children: k of them were written
 pub record Writing (rs : List Record) (left : ℕ) (q : Cube) (d : List ℕ) (at : ℕ) (out : List ℕ) (next k : ℕ) : Type 0 where
+  pub split : Split rs left q
   pub few : k ≤ 8
   pub place : next ≡ at + 3 * length (upto (kidLeaves rs left q) k)
   pub bytes : out ≡ sets d at (leavesBytes (upto (kidLeaves rs left q) k))
 
-pub writing-start : (rs : List Record) (left : ℕ) (q : Cube) (d : List ℕ) (at : ℕ) → Writing rs left q d at d at 0
+pub writing-start : (rs : List Record) (left : ℕ) (q : Cube) (d : List ℕ) (at : ℕ) → Split rs left q → Writing rs left q d at d at 0
 unfolding leavesBytes
-writing-start rs left q d at =
+writing-start rs left q d at h =
     let e = upto-none (kidLeaves rs left q) in
-    record { few = omega arith; place = rw e (omega arith); bytes = rw e }
+    record { split = h; few = omega arith; place = rw e (omega arith); bytes = rw e }
 
-module _ (rs : List Record) (left : ℕ) (q : Cube) (l : 0 < left) (g : isGray rs q ≡ true) (d : List ℕ) (at : ℕ) (out : List ℕ) (next k : ℕ) (w : Writing rs left q d at out next k) where
+module _ (rs : List Record) (left : ℕ) (q : Cube) (d : List ℕ) (at : ℕ) (out : List ℕ) (next k : ℕ) (w : Writing rs left q d at out next k) where
   abbrev kids : ℕ → List Leaf
   kids = kidLeaves rs left q
+
+  all : leavesOf rs left q ≡ upto kids 8
+  all = leaves-split rs left q (w .split .deep) (w .split .gray)
 
   pub writing-length : length out ≡ length d
   writing-length = ap length (w .bytes) ∙ length-sets d at (leavesBytes (upto kids k))
@@ -78,7 +82,7 @@ module _ (rs : List Record) (left : ℕ) (q : Cube) (l : 0 < left) (g : isGray r
   pub writing-all : 8 ≤ k → Put (leavesOf rs left q) d at next out
   writing-all h =
       let e : k ≡ 8 = omega (arith, w .few) in
-      rw (leaves-split rs left q l g) (rw e at (w .place), rw e at (w .bytes))
+      rw all (rw e at (w .place), rw e at (w .bytes))
 
   module _ (more : k < 8) (child : Cube) (is : child ≡ childOf q k) where
     leaves-are : leavesOf rs (left - 1) child ≡ kids k
@@ -86,17 +90,18 @@ module _ (rs : List Record) (left : ℕ) (q : Cube) (l : 0 < left) (g : isGray r
 
     pub child-none : pastsOf rs left q ≡ [] → pastsOf rs (left - 1) child ≡ []
     child-none none =
-        let u : upto (kidPasts rs left q) 8 ≡ [] = none-right (pastOf rs q) (upto (kidPasts rs left q) 8) (sym (pasts-split rs left q l g) ∙ none) in
+        let u : upto (kidPasts rs left q) 8 ≡ [] = none-right (pastOf rs q) (upto (kidPasts rs left q) 8) (sym (pasts-split rs left q (w .split .deep) (w .split .gray)) ∙ none) in
         ap (pastsOf rs (left - 1)) is ∙ sym (kid-pasts rs left q k) ∙ upto-nothing (kidPasts rs left q) k 8 more u
 
     pub child-room : at + 3 * length (leavesOf rs left q) ≤ length d → next + 3 * length (leavesOf rs (left - 1) child) ≤ length out
     child-room h =
-        omega (arith, w .place, writing-length, ap length leaves-are, upto-length kids k, upto-most kids (k + 1) 8 (omega arith), ap length (leaves-split rs left q l g))
+        omega (arith, w .place, writing-length, ap length leaves-are, upto-length kids k, upto-most kids (k + 1) 8 (omega arith), ap length all)
 
     pub writing-next : (r : ℕ) (after : List ℕ) → Put (leavesOf rs (left - 1) child) out next r after → Writing rs left q d at after r (k + 1)
     writing-next r after h =
         let p : Put (kids k) out next r after = rw leaves-are at h in
         record {
+          split = w .split;
           few = omega arith;
           place = omega (arith, w .place, p .0, upto-length kids k);
           bytes =

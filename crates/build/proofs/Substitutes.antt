@@ -1,5 +1,5 @@
 -- Wrong programs that the contract of `build` shuts out, each on the step room at depth 1: what they would answer is not what the contract says. Assumes nothing.
-use mathlib.Core.Path.{_≡_, refl, sym, ap, _∙_}
+use mathlib.Core.Path.{_≡_, sym, ap, _∙_}
 use mathlib.Core.List.{List, [], _∷_, _++_}
 use Prim.Native.Nat.{ℕ}
 use native.Mathlib.Omega.{arith}

@@ -8,7 +8,6 @@ ghost use lib.Seq.{sets};
 ghost use Rattle.sheet.specs.Records.{recordsOf};
 ghost use Rattle.cube.specs.Limits.{Near};
 ghost use Rattle.zonemap.specs.Map.{leafBytes, leavesBytes};
-ghost use Rattle.colour.specs.Entries.{judgedOf};
 ghost use Rattle.build.specs.Solid.{leafBy, leavesOf, pastsOf};
 ghost use Rattle.build.specs.Counting.{grayJudged, aloneOf, shownOf, countedOf};
 use crate::Counted;

@@ -33,7 +33,7 @@ use Rattle.colour.specs.declared.State.{State}
 use Rattle.colour.specs.declared.State.the-variants.{Out, In, Single, Comp, Mixed}
 use Rattle.colour.specs.declared.Bounds.{Bounds}
 use Rattle.colour.specs.declared.Judged.the-variants.{Known, Past}
-use Rattle.colour.specs.Bounds.{none, boundsOf}
+use Rattle.colour.specs.Bounds.{boundsOf}
 use Rattle.colour.specs.States.{classOf, faceOf, stateBy, stateOf}
 use Rattle.colour.specs.Held.{Held, heldAt}
 use Rattle.colour.specs.Entries.{Entry, blank, entryOf, entries, beforePast, judgedOf}

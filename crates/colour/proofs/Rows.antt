@@ -4,7 +4,7 @@ use mathlib.Core.List.{List, [], _∷_}
 use lib.IntN.{pos, negsuc}
 use lib.ListN.{getD}
 use Rattle.integers.specs.Least.{lesserOf, greaterOf}
-use Rattle.interval.specs.Rules.{from, sum, difference, span, product, square}
+use Rattle.interval.specs.Rules.{from, difference, span, product, square}
 use Rattle.sheet.specs.declared.Record.{Record}
 use Rattle.sheet.specs.declared.Record.the-variants.{Constant, X, Difference, Product, Square}
 use Rattle.sheet.specs.Along.{along, onward}

@@ -1,6 +1,6 @@
 -- Where a record stands, its kind tells its count byte and which record it is. Assumes nothing.
 use mathlib.Core.Path.{_≡_, refl, ap, sym, _∙_}
-use mathlib.Core.Bool.{Bool, true, false, cond, _&&_, and-eq-true-iff}
+use mathlib.Core.Bool.{true, false, cond, _&&_, and-eq-true-iff}
 use mathlib.Core.List.{List}
 use Prim.Native.Nat.{ℕ, _+_, _<_, _^_}
 use native.Mathlib.Omega.{arith}
@@ -16,8 +16,7 @@ use Rattle.integers.proofs.Order.{by-test}
 use Rattle.bigendian.specs.Numbers.{signedAt}
 use Rattle.sheet.specs.declared.Record.{Record}
 use Rattle.sheet.specs.declared.Record.the-variants.{Constant, X, Y, Z, Sum, Difference, Product, Square, Face, Both, Either, Complement}
-use Rattle.sheet.specs.declared.Row.{Row}
-use Rattle.sheet.specs.declared.Row.the-variants.{Known, Unknown}
+use Rattle.sheet.specs.declared.Row.the-variants.{Known}
 use Rattle.sheet.specs.Table.{rowOf, rowAt, isKnown, Stands}
 
 -- the count byte of a kind, and the record that it makes with the bytes after it

@@ -1,6 +1,6 @@
 -- What a sheet that was found good tells: how many records it has, and that there is a last one. Assumes nothing.
-use mathlib.Core.Path.{_≡_, refl, ap, sym, _∙_}
-use mathlib.Core.Bool.{Bool, true, false, cond, not, _||_}
+use mathlib.Core.Path.{_≡_, refl}
+use mathlib.Core.Bool.{Bool, true, false, cond, not}
 use mathlib.Core.List.{List, [], _∷_}
 use Prim.Native.Nat.{ℕ, zero, suc, _<_, _≤_}
 use native.Mathlib.Omega.{arith}
@@ -15,7 +15,7 @@ use Rattle.sheet.specs.declared.Refusal.{Refusal}
 use Rattle.sheet.specs.declared.Checked.{Checked}
 use Rattle.sheet.specs.declared.Checked.the-variants.{Good, Refused as Bad}
 use Rattle.sheet.specs.Table.{readAt}
-use Rattle.sheet.specs.Records.{Reading, onRead, readFrom, reading, recordsOf, stopOf}
+use Rattle.sheet.specs.Records.{onRead, readFrom, reading, recordsOf, stopOf}
 use Rattle.sheet.specs.Operands.{firstUnmet, lastSort}
 use Rattle.sheet.specs.Check.{lengthFails, solidOf, sortedOf, checkOf}
 

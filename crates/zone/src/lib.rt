@@ -1,8 +1,7 @@
 // The library's face to C and Rust: each call has the contract of the proved call behind it.
 
 ghost use mathlib.Core.Path.{_≡_};
-ghost use Rattle.build.specs.Build.{Outcome, buildOf, codeOf, numberOf};
-ghost use Rattle.zone.specs.Replies.{ZoneOutcome, zoneOutcome, zoneBuildOf};
+ghost use Rattle.zone.specs.Replies.{zoneOutcome, zoneBuildOf};
 
 // A reply by document 01's code and number.
 #[repr(C)]

@@ -5,7 +5,7 @@ use Prim.Native.Nat.{_-_}
 use mathlib.Core.Path.{sym, _∙_}
 use borrow.Author.Tests.{not-true, not-false}
 use Rattle.cube.proofs.Cubes.{near-fewer, child-near}
-use Rattle.build.proofs.Cubes.{gray-none, gray-is}
+use Rattle.build.proofs.Cubes.{splits}
 use Rattle.sheet.specs.Records.{recordsOf}
 use Rattle.build.proofs.Count.{Counting, alone-end, alone-flat, counting-start, counted-all, counted-past, counting-room, counting-next}
 use Prim.Native.Nat.{ℕ, _<_}
@@ -148,7 +148,8 @@ count-loop-holds : (t : ℕ) → count-lts.Need-loop-holds (
   count-below t,
   count.Post,
 ) (count-at t) count.Post count-Inv-loop count-μ-loop
-count-loop-holds t c = counting-start _ _ _
+count-loop-holds t c =
+    counting-start _ _ _ (splits _ _ _ (c .before .before .before .before .before .pre .1 .0) _ (c .before .before .before .judge .ensures) _ (c .before .before .if1 .left) (sym (c .before .is-gray .ensures) ∙ not-false _ (c .if2 .left)))
 
 count-child-requires : (t : ℕ) → count-lts.Need-child-requires (
   judge-reads.Asked,
@@ -235,7 +236,7 @@ count-returns-3 : (t : ℕ) → count-lts.Need-returns-3 (
   count.Post,
 ) (count-at t) count.Post count-Inv-loop count-μ-loop
 count-returns-3 t c =
-    counted-past _ _ _ (omega arith) (gray-is _ _ _ (c .before .before .before .before .before .before .before .before .before .before .before .pre .1 .0) _ (c .before .before .before .before .before .before .before .before .before .judge .ensures) (sym (c .before .before .before .before .before .before .before .is-gray .ensures) ∙ not-false _ (c .before .before .before .before .before .before .if2 .left))) (gray-none _ _ _ (c .before .before .before .before .before .before .before .before .before .before .before .pre .1 .0) _ (c .before .before .before .before .before .before .before .before .before .judge .ensures) (sym (c .before .before .before .before .before .before .before .is-gray .ensures) ∙ not-false _ (c .before .before .before .before .before .before .if2 .left))) _ _ (c .before .before .before .before .before .loop .inv) (c .before .before .before .before .loop-test .taken) _ (c .before .before .before .child .ensures) _ (c .before .before .count .ensures) _ (c .enum-told .given .1)
+    counted-past _ _ _ _ _ (c .before .before .before .before .before .loop .inv) (c .before .before .before .before .loop-test .taken) _ (c .before .before .before .child .ensures) _ (c .before .before .count .ensures) _ (c .enum-told .given .1)
 
 count-add-total : (t : ℕ) → count-lts.Need-add-total (
   judge-reads.Asked,
@@ -250,7 +251,7 @@ count-add-total : (t : ℕ) → count-lts.Need-add-total (
   count.Post,
 ) (count-at t) count.Post count-Inv-loop count-μ-loop
 count-add-total t c =
-    omega (arith, counting-room _ _ _ (omega arith) (gray-is _ _ _ (c .before .before .before .before .before .before .before .before .before .before .before .before .pre .1 .0) _ (c .before .before .before .before .before .before .before .before .before .before .judge .ensures) (sym (c .before .before .before .before .before .before .before .before .is-gray .ensures) ∙ not-false _ (c .before .before .before .before .before .before .before .if2 .left))) (gray-none _ _ _ (c .before .before .before .before .before .before .before .before .before .before .before .before .pre .1 .0) _ (c .before .before .before .before .before .before .before .before .before .before .judge .ensures) (sym (c .before .before .before .before .before .before .before .before .is-gray .ensures) ∙ not-false _ (c .before .before .before .before .before .before .before .if2 .left))) _ _ (c .before .before .before .before .before .before .loop .inv) (c .before .before .before .before .before .loop-test .taken) _ (c .before .before .before .before .child .ensures) _ (c .before .before .before .count .ensures) _ (c .before .counted .given .1) (omega (arith, c .before .before .before .before .before .before .before .before .before .before .before .before .pre .1 .1 .deep)))
+    omega (arith, counting-room _ _ _ _ _ (c .before .before .before .before .before .before .loop .inv) (c .before .before .before .before .before .loop-test .taken) _ (c .before .before .before .before .child .ensures) _ (c .before .before .before .count .ensures) _ (c .before .counted .given .1) (omega (arith, c .before .before .before .before .before .before .before .before .before .before .before .before .pre .1 .1 .deep)))
 
 count-add-k : (t : ℕ) → count-lts.Need-add-k (
   judge-reads.Asked,
@@ -293,7 +294,7 @@ count-loop-again : (t : ℕ) → count-lts.Need-loop-again (
   count.Post,
 ) (count-at t) count.Post count-Inv-loop count-μ-loop
 count-loop-again t c =
-    counting-next _ _ _ (omega arith) (gray-is _ _ _ (c .before .before .before .before .before .before .before .before .before .before .before .before .pre .1 .0) _ (c .before .before .before .before .before .before .before .before .before .before .judge .ensures) (sym (c .before .before .before .before .before .before .before .before .is-gray .ensures) ∙ not-false _ (c .before .before .before .before .before .before .before .if2 .left))) (gray-none _ _ _ (c .before .before .before .before .before .before .before .before .before .before .before .before .pre .1 .0) _ (c .before .before .before .before .before .before .before .before .before .before .judge .ensures) (sym (c .before .before .before .before .before .before .before .before .is-gray .ensures) ∙ not-false _ (c .before .before .before .before .before .before .before .if2 .left))) _ _ (c .before .before .before .before .before .before .loop .inv) (c .before .before .before .before .before .loop-test .taken) _ (c .before .before .before .before .child .ensures) _ (c .before .before .before .count .ensures) _ (c .before .counted .given .1)
+    counting-next _ _ _ _ _ (c .before .before .before .before .before .before .loop .inv) (c .before .before .before .before .before .loop-test .taken) _ (c .before .before .before .before .child .ensures) _ (c .before .before .before .count .ensures) _ (c .before .counted .given .1)
 
 count-returns-4 : (t : ℕ) → count-lts.Need-returns-4 (
   judge-reads.Asked,
@@ -307,8 +308,7 @@ count-returns-4 : (t : ℕ) → count-lts.Need-returns-4 (
   count-below t,
   count.Post,
 ) (count-at t) count.Post count-Inv-loop count-μ-loop
-count-returns-4 t c =
-    counted-all _ _ _ (omega arith) (gray-is _ _ _ (c .before .before .before .before .before .before .before .pre .1 .0) _ (c .before .before .before .before .before .judge .ensures) (sym (c .before .before .before .is-gray .ensures) ∙ not-false _ (c .before .before .if2 .left))) (gray-none _ _ _ (c .before .before .before .before .before .before .before .pre .1 .0) _ (c .before .before .before .before .before .judge .ensures) (sym (c .before .before .before .is-gray .ensures) ∙ not-false _ (c .before .before .if2 .left))) _ _ (c .before .loop .inv) (omega arith)
+count-returns-4 t c = counted-all _ _ _ _ _ (c .before .loop .inv) (omega arith)
 
 pub +count-spec : {M : Type 1} → statement M
 +count-spec = close μ-count λ t. count-lts.spec (

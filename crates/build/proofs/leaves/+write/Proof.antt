@@ -6,7 +6,7 @@ use mathlib.Core.Path.{sym, _∙_}
 use borrow.Author.Tests.{not-true, not-false}
 use Rattle.sheet.specs.Records.{recordsOf}
 use Rattle.cube.proofs.Cubes.{near-fewer, child-near}
-use Rattle.build.proofs.Cubes.{gray-is}
+use Rattle.build.proofs.Cubes.{splits}
 use Rattle.build.proofs.Stores.{end-room, end-put, flat-room, flat-put, Writing, writing-start, writing-length, writing-all, child-none, child-room, writing-next}
 use Prim.Native.Nat.{ℕ, _<_}
 use borrow.Fn.Kinds.{In}
@@ -232,7 +232,8 @@ write-loop-holds : (t : ℕ) → write-lts.Need-loop-holds (
   write-below t,
   write.Post,
 ) (write-at t) write.Post write-Inv-loop write-μ-loop
-write-loop-holds t c = writing-start _ _ _ _ _
+write-loop-holds t c =
+    writing-start _ _ _ _ _ (splits _ _ _ (c .before .before .before .before .before .before .pre .1 .0) _ (c .before .before .before .judge .ensures) _ (c .before .before .if1 .left) (sym (c .before .is-gray .ensures) ∙ not-false _ (c .if2 .left)))
 
 write-child-requires : (t : ℕ) → write-lts.Need-child-requires (
   judge-reads.Asked,
@@ -288,8 +289,8 @@ write-write-requires t c κs = (
     (
       rw (c .before .child .ensures) (child-near _ _ _ (c .before .before .before .before .before .before .before .before .before .before .pre .1 .1 .0) (omega arith) (c .before .before .loop-test .taken)),
       (
-        child-none _ _ _ (omega arith) (gray-is _ _ _ (c .before .before .before .before .before .before .before .before .before .before .pre .1 .0) _ (c .before .before .before .before .before .before .before .judge .ensures) (sym (c .before .before .before .before .before .is-gray .ensures) ∙ not-false _ (c .before .before .before .before .if2 .left))) _ _ _ _ _ (c .before .before .before .loop .inv) (c .before .before .loop-test .taken) _ (c .before .child .ensures) (c .before .before .before .before .before .before .before .before .before .before .pre .1 .1 .1 .0),
-        child-room _ _ _ (omega arith) (gray-is _ _ _ (c .before .before .before .before .before .before .before .before .before .before .pre .1 .0) _ (c .before .before .before .before .before .before .before .judge .ensures) (sym (c .before .before .before .before .before .is-gray .ensures) ∙ not-false _ (c .before .before .before .before .if2 .left))) _ _ _ _ _ (c .before .before .before .loop .inv) (c .before .before .loop-test .taken) _ (c .before .child .ensures) (c .before .before .before .before .before .before .before .before .before .before .pre .1 .1 .1 .1),
+        child-none _ _ _ _ _ _ _ _ (c .before .before .before .loop .inv) (c .before .before .loop-test .taken) _ (c .before .child .ensures) (c .before .before .before .before .before .before .before .before .before .before .pre .1 .1 .1 .0),
+        child-room _ _ _ _ _ _ _ _ (c .before .before .before .loop .inv) (c .before .before .loop-test .taken) _ (c .before .child .ensures) (c .before .before .before .before .before .before .before .before .before .before .pre .1 .1 .1 .1),
       ),
     ),
   ),
@@ -342,7 +343,7 @@ write-loop-again : (t : ℕ) → write-lts.Need-loop-again (
   write.Post,
 ) (write-at t) write.Post write-Inv-loop write-μ-loop
 write-loop-again t c =
-    writing-next _ _ _ (omega arith) (gray-is _ _ _ (c .before .before .before .before .before .before .before .before .before .before .before .before .before .pre .1 .0) _ (c .before .before .before .before .before .before .before .before .before .before .judge .ensures) (sym (c .before .before .before .before .before .before .before .before .is-gray .ensures) ∙ not-false _ (c .before .before .before .before .before .before .before .if2 .left))) _ _ _ _ _ (c .before .before .before .before .before .before .loop .inv) (c .before .before .before .before .before .loop-test .taken) _ (c .before .before .before .before .child .ensures) _ _ (c .before .before .write .ensures)
+    writing-next _ _ _ _ _ _ _ _ (c .before .before .before .before .before .before .loop .inv) (c .before .before .before .before .before .loop-test .taken) _ (c .before .before .before .before .child .ensures) _ _ (c .before .before .write .ensures)
 
 write-same-length-3 : (t : ℕ) → write-lts.Need-same-length-3 (
   judge-reads.Asked,
@@ -358,8 +359,7 @@ write-same-length-3 : (t : ℕ) → write-lts.Need-same-length-3 (
   write-below t,
   write.Post,
 ) (write-at t) write.Post write-Inv-loop write-μ-loop
-write-same-length-3 t c =
-    writing-length _ _ _ (omega arith) (gray-is _ _ _ (c .before .before .before .before .before .before .before .before .pre .1 .0) _ (c .before .before .before .before .before .judge .ensures) (sym (c .before .before .before .is-gray .ensures) ∙ not-false _ (c .before .before .if2 .left))) _ _ _ _ _ (c .before .loop .inv)
+write-same-length-3 t c = writing-length _ _ _ _ _ _ _ _ (c .before .loop .inv)
 
 write-returns-3 : (t : ℕ) → write-lts.Need-returns-3 (
   judge-reads.Asked,
@@ -375,8 +375,7 @@ write-returns-3 : (t : ℕ) → write-lts.Need-returns-3 (
   write-below t,
   write.Post,
 ) (write-at t) write.Post write-Inv-loop write-μ-loop
-write-returns-3 t c =
-    writing-all _ _ _ (omega arith) (gray-is _ _ _ (c .before .before .before .before .before .before .before .before .pre .1 .0) _ (c .before .before .before .before .before .judge .ensures) (sym (c .before .before .before .is-gray .ensures) ∙ not-false _ (c .before .before .if2 .left))) _ _ _ _ _ (c .before .loop .inv) (omega arith)
+write-returns-3 t c = writing-all _ _ _ _ _ _ _ _ (c .before .loop .inv) (omega arith)
 
 pub +write-spec : {M : Type 1} → statement M
 +write-spec = close μ-write λ t. write-lts.spec (

@@ -27,7 +27,7 @@ pub fn judge(s: &[u8], count: usize, q: Cube, which: u8) -> Judged
     let mut at = 3;
     while b.count < count {
         let n = b.count;
-        let r = sheet::record_at(s, at);
+        let r = kinds::record_at(s, at);
         let next = at + 1 + s[at] as usize;
         let Bounded::Within(v) = entries::bounds(r, q, &b.low, &b.high) else {
             return Judged::Past(n);

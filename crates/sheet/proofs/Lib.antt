@@ -4,5 +4,4 @@ pub mod Arrays
 pub mod Sorting
 pub mod Replies
 pub mod Along
-pub mod ByKind
 pub mod Good

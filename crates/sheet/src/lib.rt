@@ -6,7 +6,6 @@ mod reading;
 mod table;
 
 pub use checking::check;
-pub use table::record_at;
 
 // A record: its kind with what follows the kind. An operand is the number of an earlier record.
 pub enum Record {

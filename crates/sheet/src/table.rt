@@ -4,8 +4,7 @@ ghost use mathlib.Core.Path.{_≡_};
 ghost use Prim.Native.Nat.{_+_, _<_};
 ghost use lib.IntN.{pos};
 ghost use lib.ListN.{length, getD};
-ghost use Rattle.sheet.specs.Table.{rowOf, rowAt, Stands};
-ghost use Rattle.sheet.specs.declared.Row.the-variants.{Known};
+ghost use Rattle.sheet.specs.Table.{rowOf, rowAt};
 use crate::Record;
 use crate::Row;
 
@@ -80,25 +79,4 @@ pub fn row_at(s: &[u8], at: usize, size: usize) -> Row
         }
     }
     Row::Unknown
-}
-
-// The record at a place where one is known to stand: there its kind alone tells which it is, so a sheet that was checked is not checked again.
-pub fn record_at(s: &[u8], at: usize) -> Record
-    requires { ⌜ Stands (now s) at ⌝ }
-    ensures { λ r. ⌜ rowAt (now (s .entry)) at ≡ Known r ⌝ }
-{
-    match s[at + 1] {
-        1 => Record::Constant(bigendian::i32_at(s, at + 2)),
-        2 => Record::X,
-        3 => Record::Y,
-        4 => Record::Z,
-        5 => Record::Sum(s[at + 2], s[at + 3]),
-        6 => Record::Difference(s[at + 2], s[at + 3]),
-        7 => Record::Product(s[at + 2], s[at + 3]),
-        8 => Record::Square(s[at + 2]),
-        16 => Record::Face(s[at + 2]),
-        17 => Record::Both(s[at + 2], s[at + 3]),
-        18 => Record::Either(s[at + 2], s[at + 3]),
-        _ => Record::Complement(s[at + 2]),
-    }
 }

@@ -22,6 +22,9 @@ abbrev put-digits-below : ℕ → In 1 put-digits-kinds.ps
 put-digits-below t =
     and 1 put-digits-kinds.ps (falls 1 put-digits-kinds.ps _<_ μ-put-digits t) put-digits.Pre
 
+abbrev put-digits-calls : ℕ → put-digits-lts.Claims
+put-digits-calls t = (put-digits-below t, put-digits.Post)
+
 put-digits-cast-out :
     (t : ℕ) →
     put-digits-lts.Need-cast-out
@@ -38,22 +41,13 @@ put-digits-add-out :
     put-digits.Post
 put-digits-add-out t c = omega arith
 
-put-digits-slice-write-out : (t : ℕ) → put-digits-lts.Need-slice-write-out (
-  put-digits-below t,
-  put-digits.Post,
-) (put-digits-at t) put-digits.Post
+put-digits-slice-write-out : (t : ℕ) → put-digits-lts.Need-slice-write-out (put-digits-calls t) (put-digits-at t) put-digits.Post
 put-digits-slice-write-out t c = first-room _ _ _ (c .if1 .taken) (c .before .before .pre .1)
 
-put-digits-add-result : (t : ℕ) → put-digits-lts.Need-add-result (
-  put-digits-below t,
-  put-digits.Post,
-) (put-digits-at t) put-digits.Post
+put-digits-add-result : (t : ℕ) → put-digits-lts.Need-add-result (put-digits-calls t) (put-digits-at t) put-digits.Post
 put-digits-add-result t c = omega (arith, first-room _ _ _ (c .if1 .taken) (c .before .before .pre .1))
 
-put-digits-same-length : (t : ℕ) → put-digits-lts.Need-same-length (
-  put-digits-below t,
-  put-digits.Post,
-) (put-digits-at t) put-digits.Post
+put-digits-same-length : (t : ℕ) → put-digits-lts.Need-same-length (put-digits-calls t) (put-digits-at t) put-digits.Post
 put-digits-same-length t c = search needs
 
 put-digits-returns :
@@ -64,57 +58,33 @@ put-digits-returns :
     put-digits.Post
 put-digits-returns t c = first-put _ _ _ (c .if1 .taken)
 
-put-digits-put-digits-requires : (t : ℕ) → put-digits-lts.Need-put-digits-requires (
-  put-digits-below t,
-  put-digits.Post,
-) (put-digits-at t) put-digits.Post
+put-digits-put-digits-requires : (t : ℕ) → put-digits-lts.Need-put-digits-requires (put-digits-calls t) (put-digits-at t) put-digits.Post
 put-digits-put-digits-requires t c κs =
     (omega arith, omega (arith, last-room _ _ _ (c .before .if1 .left) (c .before .before .before .pre .1)))
 
-put-digits-cast-out-2 : (t : ℕ) → put-digits-lts.Need-cast-out-2 (
-  put-digits-below t,
-  put-digits.Post,
-) (put-digits-at t) put-digits.Post
+put-digits-cast-out-2 : (t : ℕ) → put-digits-lts.Need-cast-out-2 (put-digits-calls t) (put-digits-at t) put-digits.Post
 put-digits-cast-out-2 t c = omega arith
 
-put-digits-add-out-2 : (t : ℕ) → put-digits-lts.Need-add-out-2 (
-  put-digits-below t,
-  put-digits.Post,
-) (put-digits-at t) put-digits.Post
+put-digits-add-out-2 : (t : ℕ) → put-digits-lts.Need-add-out-2 (put-digits-calls t) (put-digits-at t) put-digits.Post
 put-digits-add-out-2 t c = omega arith
 
-put-digits-slice-write-out-2 : (t : ℕ) → put-digits-lts.Need-slice-write-out-2 (
-  put-digits-below t,
-  put-digits.Post,
-) (put-digits-at t) put-digits.Post
+put-digits-slice-write-out-2 : (t : ℕ) → put-digits-lts.Need-slice-write-out-2 (put-digits-calls t) (put-digits-at t) put-digits.Post
 put-digits-slice-write-out-2 t c =
     omega (arith, last-room _ _ _ (c .before .before .before .before .if1 .left) (c .before .before .before .before .before .before .pre .1))
 
-put-digits-add-result-2 : (t : ℕ) → put-digits-lts.Need-add-result-2 (
-  put-digits-below t,
-  put-digits.Post,
-) (put-digits-at t) put-digits.Post
+put-digits-add-result-2 : (t : ℕ) → put-digits-lts.Need-add-result-2 (put-digits-calls t) (put-digits-at t) put-digits.Post
 put-digits-add-result-2 t c =
     omega (arith, last-room _ _ _ (c .before .before .before .before .if1 .left) (c .before .before .before .before .before .before .pre .1))
 
-put-digits-same-length-2 : (t : ℕ) → put-digits-lts.Need-same-length-2 (
-  put-digits-below t,
-  put-digits.Post,
-) (put-digits-at t) put-digits.Post
+put-digits-same-length-2 : (t : ℕ) → put-digits-lts.Need-same-length-2 (put-digits-calls t) (put-digits-at t) put-digits.Post
 put-digits-same-length-2 t c = search needs
 
-put-digits-returns-2 : (t : ℕ) → put-digits-lts.Need-returns-2 (
-  put-digits-below t,
-  put-digits.Post,
-) (put-digits-at t) put-digits.Post
+put-digits-returns-2 : (t : ℕ) → put-digits-lts.Need-returns-2 (put-digits-calls t) (put-digits-at t) put-digits.Post
 put-digits-returns-2 t c =
     last-put _ _ _ _ _ (c .before .before .before .before .if1 .left) (c .before .before .put-digits .ensures)
 
 pub +put-digits-spec : {M : Type 1} → statement M
-+put-digits-spec = close μ-put-digits λ t. put-digits-lts.spec (
-  put-digits-below t,
-  put-digits.Post,
-)
++put-digits-spec = close μ-put-digits λ t. put-digits-lts.spec (put-digits-calls t)
     (put-digits-at t)
     put-digits.Post
     (put-digits-cast-out t)

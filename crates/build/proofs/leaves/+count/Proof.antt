@@ -30,299 +30,82 @@ count-at t = and 1 count-kinds.ps (is 1 count-kinds.ps μ-count t) count.Pre
 abbrev count-below : ℕ → In 1 count-kinds.ps
 count-below t = and 1 count-kinds.ps (falls 1 count-kinds.ps _<_ μ-count t) count.Pre
 
+abbrev count-calls : ℕ → count-lts.Claims
+count-calls t = (judge-reads.Asked, judge-reads.Learnt, alone-reads.Asked, alone-reads.Learnt, is-gray-reads.Asked, is-gray-reads.Learnt, child-reads.Asked, child-reads.Learnt, count-below t, count.Post)
+
 abbrev count-Inv-loop : count-lts.InvT-loop
 count-Inv-loop s solid q left total₀ k₀ total k = Counting (recordsOf s) left q total k
 
 abbrev count-μ-loop : count-lts.MeasureT-loop
 count-μ-loop s solid q left total₀ k₀ total k = 8 - k
 
-count-add-judge : (t : ℕ) → count-lts.Need-add-judge (
-  judge-reads.Asked,
-  judge-reads.Learnt,
-  alone-reads.Asked,
-  alone-reads.Learnt,
-  is-gray-reads.Asked,
-  is-gray-reads.Learnt,
-  child-reads.Asked,
-  child-reads.Learnt,
-  count-below t,
-  count.Post,
-) (count-at t) count.Post count-Inv-loop count-μ-loop
+count-add-judge : (t : ℕ) → count-lts.Need-add-judge (count-calls t) (count-at t) count.Post count-Inv-loop count-μ-loop
 count-add-judge t c = search needs
 
-count-judge-requires : (t : ℕ) → count-lts.Need-judge-requires (
-  judge-reads.Asked,
-  judge-reads.Learnt,
-  alone-reads.Asked,
-  alone-reads.Learnt,
-  is-gray-reads.Asked,
-  is-gray-reads.Learnt,
-  child-reads.Asked,
-  child-reads.Learnt,
-  count-below t,
-  count.Post,
-) (count-at t) count.Post count-Inv-loop count-μ-loop
+count-judge-requires : (t : ℕ) → count-lts.Need-judge-requires (count-calls t) (count-at t) count.Post count-Inv-loop count-μ-loop
 count-judge-requires t c κs = (c .before .pre .1 .0, near-fewer _ 0 _ (c .before .pre .1 .1) (omega arith))
 
-count-alone-requires : (t : ℕ) → count-lts.Need-alone-requires (
-  judge-reads.Asked,
-  judge-reads.Learnt,
-  alone-reads.Asked,
-  alone-reads.Learnt,
-  is-gray-reads.Asked,
-  is-gray-reads.Learnt,
-  child-reads.Asked,
-  child-reads.Learnt,
-  count-below t,
-  count.Post,
-) (count-at t) count.Post count-Inv-loop count-μ-loop
+count-alone-requires : (t : ℕ) → count-lts.Need-alone-requires (count-calls t) (count-at t) count.Post count-Inv-loop count-μ-loop
 count-alone-requires t c κs = search needs
 
-count-returns : (t : ℕ) → count-lts.Need-returns (
-  judge-reads.Asked,
-  judge-reads.Learnt,
-  alone-reads.Asked,
-  alone-reads.Learnt,
-  is-gray-reads.Asked,
-  is-gray-reads.Learnt,
-  child-reads.Asked,
-  child-reads.Learnt,
-  count-below t,
-  count.Post,
-) (count-at t) count.Post count-Inv-loop count-μ-loop
+count-returns : (t : ℕ) → count-lts.Need-returns (count-calls t) (count-at t) count.Post count-Inv-loop count-μ-loop
 count-returns t c =
     c .alone .ensures ∙ alone-end _ _ _ _ (c .before .before .before .before .pre .1 .0) _ (c .before .before .judge .ensures) (c .before .if1 .taken)
 
-count-is-gray-requires : (t : ℕ) → count-lts.Need-is-gray-requires (
-  judge-reads.Asked,
-  judge-reads.Learnt,
-  alone-reads.Asked,
-  alone-reads.Learnt,
-  is-gray-reads.Asked,
-  is-gray-reads.Learnt,
-  child-reads.Asked,
-  child-reads.Learnt,
-  count-below t,
-  count.Post,
-) (count-at t) count.Post count-Inv-loop count-μ-loop
+count-is-gray-requires : (t : ℕ) → count-lts.Need-is-gray-requires (count-calls t) (count-at t) count.Post count-Inv-loop count-μ-loop
 count-is-gray-requires t c κs = search needs
 
-count-alone-requires-2 : (t : ℕ) → count-lts.Need-alone-requires-2 (
-  judge-reads.Asked,
-  judge-reads.Learnt,
-  alone-reads.Asked,
-  alone-reads.Learnt,
-  is-gray-reads.Asked,
-  is-gray-reads.Learnt,
-  child-reads.Asked,
-  child-reads.Learnt,
-  count-below t,
-  count.Post,
-) (count-at t) count.Post count-Inv-loop count-μ-loop
+count-alone-requires-2 : (t : ℕ) → count-lts.Need-alone-requires-2 (count-calls t) (count-at t) count.Post count-Inv-loop count-μ-loop
 count-alone-requires-2 t c κs = search needs
 
-count-returns-2 : (t : ℕ) → count-lts.Need-returns-2 (
-  judge-reads.Asked,
-  judge-reads.Learnt,
-  alone-reads.Asked,
-  alone-reads.Learnt,
-  is-gray-reads.Asked,
-  is-gray-reads.Learnt,
-  child-reads.Asked,
-  child-reads.Learnt,
-  count-below t,
-  count.Post,
-) (count-at t) count.Post count-Inv-loop count-μ-loop
+count-returns-2 : (t : ℕ) → count-lts.Need-returns-2 (count-calls t) (count-at t) count.Post count-Inv-loop count-μ-loop
 count-returns-2 t c =
     c .alone2 .ensures ∙ alone-flat _ _ _ _ (c .before .before .before .before .before .before .pre .1 .0) _ (c .before .before .before .before .judge .ensures) (sym (c .before .before .is-gray .ensures) ∙ not-true _ (c .before .if2 .taken))
 
-count-loop-holds : (t : ℕ) → count-lts.Need-loop-holds (
-  judge-reads.Asked,
-  judge-reads.Learnt,
-  alone-reads.Asked,
-  alone-reads.Learnt,
-  is-gray-reads.Asked,
-  is-gray-reads.Learnt,
-  child-reads.Asked,
-  child-reads.Learnt,
-  count-below t,
-  count.Post,
-) (count-at t) count.Post count-Inv-loop count-μ-loop
+count-loop-holds : (t : ℕ) → count-lts.Need-loop-holds (count-calls t) (count-at t) count.Post count-Inv-loop count-μ-loop
 count-loop-holds t c =
     counting-start _ _ _ (splits _ _ _ (c .before .before .before .before .before .pre .1 .0) _ (c .before .before .before .judge .ensures) _ (c .before .before .if1 .left) (sym (c .before .is-gray .ensures) ∙ not-false _ (c .if2 .left)))
 
-count-child-requires : (t : ℕ) → count-lts.Need-child-requires (
-  judge-reads.Asked,
-  judge-reads.Learnt,
-  alone-reads.Asked,
-  alone-reads.Learnt,
-  is-gray-reads.Asked,
-  is-gray-reads.Learnt,
-  child-reads.Asked,
-  child-reads.Learnt,
-  count-below t,
-  count.Post,
-) (count-at t) count.Post count-Inv-loop count-μ-loop
+count-child-requires : (t : ℕ) → count-lts.Need-child-requires (count-calls t) (count-at t) count.Post count-Inv-loop count-μ-loop
 count-child-requires t c κs =
     (near-fewer _ 1 _ (c .before .before .before .before .before .before .before .pre .1 .1) (omega arith), c .loop-test .taken)
 
-count-sub-count : (t : ℕ) → count-lts.Need-sub-count (
-  judge-reads.Asked,
-  judge-reads.Learnt,
-  alone-reads.Asked,
-  alone-reads.Learnt,
-  is-gray-reads.Asked,
-  is-gray-reads.Learnt,
-  child-reads.Asked,
-  child-reads.Learnt,
-  count-below t,
-  count.Post,
-) (count-at t) count.Post count-Inv-loop count-μ-loop
+count-sub-count : (t : ℕ) → count-lts.Need-sub-count (count-calls t) (count-at t) count.Post count-Inv-loop count-μ-loop
 count-sub-count t c = omega arith
 
-count-count-requires : (t : ℕ) → count-lts.Need-count-requires (
-  judge-reads.Asked,
-  judge-reads.Learnt,
-  alone-reads.Asked,
-  alone-reads.Learnt,
-  is-gray-reads.Asked,
-  is-gray-reads.Learnt,
-  child-reads.Asked,
-  child-reads.Learnt,
-  count-below t,
-  count.Post,
-) (count-at t) count.Post count-Inv-loop count-μ-loop
+count-count-requires : (t : ℕ) → count-lts.Need-count-requires (count-calls t) (count-at t) count.Post count-Inv-loop count-μ-loop
 count-count-requires t c κs =
     (omega arith, (c .before .before .before .before .before .before .before .before .pre .1 .0, rw (c .child .ensures) (child-near _ _ _ (c .before .before .before .before .before .before .before .before .pre .1 .1) (omega arith) (c .before .loop-test .taken))))
 
-count-enum-known-counted : (t : ℕ) → count-lts.Need-enum-known-counted (
-  judge-reads.Asked,
-  judge-reads.Learnt,
-  alone-reads.Asked,
-  alone-reads.Learnt,
-  is-gray-reads.Asked,
-  is-gray-reads.Learnt,
-  child-reads.Asked,
-  child-reads.Learnt,
-  count-below t,
-  count.Post,
-) (count-at t) count.Post count-Inv-loop count-μ-loop
+count-enum-known-counted : (t : ℕ) → count-lts.Need-enum-known-counted (count-calls t) (count-at t) count.Post count-Inv-loop count-μ-loop
 count-enum-known-counted t c = search needs
 
-count-enum-told : (t : ℕ) → count-lts.Need-enum-told (
-  judge-reads.Asked,
-  judge-reads.Learnt,
-  alone-reads.Asked,
-  alone-reads.Learnt,
-  is-gray-reads.Asked,
-  is-gray-reads.Learnt,
-  child-reads.Asked,
-  child-reads.Learnt,
-  count-below t,
-  count.Post,
-) (count-at t) count.Post count-Inv-loop count-μ-loop
+count-enum-told : (t : ℕ) → count-lts.Need-enum-told (count-calls t) (count-at t) count.Post count-Inv-loop count-μ-loop
 count-enum-told t c = search needs
 
-count-returns-3 : (t : ℕ) → count-lts.Need-returns-3 (
-  judge-reads.Asked,
-  judge-reads.Learnt,
-  alone-reads.Asked,
-  alone-reads.Learnt,
-  is-gray-reads.Asked,
-  is-gray-reads.Learnt,
-  child-reads.Asked,
-  child-reads.Learnt,
-  count-below t,
-  count.Post,
-) (count-at t) count.Post count-Inv-loop count-μ-loop
+count-returns-3 : (t : ℕ) → count-lts.Need-returns-3 (count-calls t) (count-at t) count.Post count-Inv-loop count-μ-loop
 count-returns-3 t c =
     counted-past _ _ _ _ _ (c .before .before .before .before .before .loop .inv) (c .before .before .before .before .loop-test .taken) _ (c .before .before .before .child .ensures) _ (c .before .before .count .ensures) _ (c .enum-told .given .1)
 
-count-add-total : (t : ℕ) → count-lts.Need-add-total (
-  judge-reads.Asked,
-  judge-reads.Learnt,
-  alone-reads.Asked,
-  alone-reads.Learnt,
-  is-gray-reads.Asked,
-  is-gray-reads.Learnt,
-  child-reads.Asked,
-  child-reads.Learnt,
-  count-below t,
-  count.Post,
-) (count-at t) count.Post count-Inv-loop count-μ-loop
+count-add-total : (t : ℕ) → count-lts.Need-add-total (count-calls t) (count-at t) count.Post count-Inv-loop count-μ-loop
 count-add-total t c =
     omega (arith, counting-room _ _ _ _ _ (c .before .before .before .before .before .before .loop .inv) (c .before .before .before .before .before .loop-test .taken) _ (c .before .before .before .before .child .ensures) _ (c .before .before .before .count .ensures) _ (c .before .counted .given .1) (omega (arith, c .before .before .before .before .before .before .before .before .before .before .before .before .pre .1 .1 .deep)))
 
-count-add-k : (t : ℕ) → count-lts.Need-add-k (
-  judge-reads.Asked,
-  judge-reads.Learnt,
-  alone-reads.Asked,
-  alone-reads.Learnt,
-  is-gray-reads.Asked,
-  is-gray-reads.Learnt,
-  child-reads.Asked,
-  child-reads.Learnt,
-  count-below t,
-  count.Post,
-) (count-at t) count.Post count-Inv-loop count-μ-loop
+count-add-k : (t : ℕ) → count-lts.Need-add-k (count-calls t) (count-at t) count.Post count-Inv-loop count-μ-loop
 count-add-k t c = omega arith
 
-count-loop-less : (t : ℕ) → count-lts.Need-loop-less (
-  judge-reads.Asked,
-  judge-reads.Learnt,
-  alone-reads.Asked,
-  alone-reads.Learnt,
-  is-gray-reads.Asked,
-  is-gray-reads.Learnt,
-  child-reads.Asked,
-  child-reads.Learnt,
-  count-below t,
-  count.Post,
-) (count-at t) count.Post count-Inv-loop count-μ-loop
+count-loop-less : (t : ℕ) → count-lts.Need-loop-less (count-calls t) (count-at t) count.Post count-Inv-loop count-μ-loop
 count-loop-less t c = omega arith
 
-count-loop-again : (t : ℕ) → count-lts.Need-loop-again (
-  judge-reads.Asked,
-  judge-reads.Learnt,
-  alone-reads.Asked,
-  alone-reads.Learnt,
-  is-gray-reads.Asked,
-  is-gray-reads.Learnt,
-  child-reads.Asked,
-  child-reads.Learnt,
-  count-below t,
-  count.Post,
-) (count-at t) count.Post count-Inv-loop count-μ-loop
+count-loop-again : (t : ℕ) → count-lts.Need-loop-again (count-calls t) (count-at t) count.Post count-Inv-loop count-μ-loop
 count-loop-again t c =
     counting-next _ _ _ _ _ (c .before .before .before .before .before .before .loop .inv) (c .before .before .before .before .before .loop-test .taken) _ (c .before .before .before .before .child .ensures) _ (c .before .before .before .count .ensures) _ (c .before .counted .given .1)
 
-count-returns-4 : (t : ℕ) → count-lts.Need-returns-4 (
-  judge-reads.Asked,
-  judge-reads.Learnt,
-  alone-reads.Asked,
-  alone-reads.Learnt,
-  is-gray-reads.Asked,
-  is-gray-reads.Learnt,
-  child-reads.Asked,
-  child-reads.Learnt,
-  count-below t,
-  count.Post,
-) (count-at t) count.Post count-Inv-loop count-μ-loop
+count-returns-4 : (t : ℕ) → count-lts.Need-returns-4 (count-calls t) (count-at t) count.Post count-Inv-loop count-μ-loop
 count-returns-4 t c = counted-all _ _ _ _ _ (c .before .loop .inv) (omega arith)
 
 pub +count-spec : {M : Type 1} → statement M
-+count-spec = close μ-count λ t. count-lts.spec (
-  judge-reads.Asked,
-  judge-reads.Learnt,
-  alone-reads.Asked,
-  alone-reads.Learnt,
-  is-gray-reads.Asked,
-  is-gray-reads.Learnt,
-  child-reads.Asked,
-  child-reads.Learnt,
-  count-below t,
-  count.Post,
-)
++count-spec = close μ-count λ t. count-lts.spec (count-calls t)
     (count-at t)
     count.Post
     count-Inv-loop

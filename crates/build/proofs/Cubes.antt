@@ -98,12 +98,8 @@ module _ (rs : List Record) where
     unfolding judgedOf pastOf
     cases f g = by-test past (λ t. g (beforePast (entries q rs)) (rw t) (e ∙ rw t)) (λ t. f (rw t) (e ∙ rw t (ap Known solid-is)))
 
-    module _ (state : State) (k : j ≡ Known state) where
-      pub known-none : pastOf rs q ≡ []
-      known-none = cases (λ p i. p) (λ n p i. let z : _≡_ {A = ℕ} 0 1 = cc in absurd (omega arith))
-
-      pub known-state : state ≡ solidState rs q
-      known-state = cases (λ p i. cc) (λ n p i. let z : _≡_ {A = ℕ} 0 1 = cc in absurd (omega arith))
+    pub known-none : (state : State) → j ≡ Known state → pastOf rs q ≡ []
+    known-none state k = cases (λ p i. p) (λ n p i. let z : _≡_ {A = ℕ} 0 1 = cc in absurd (omega arith))
 
     pub past-first : (n : ℕ) → j ≡ Past n → pastOf rs q ≡ n ∷ []
     past-first n k = cases (λ p i. let z : _≡_ {A = ℕ} 0 1 = cc in absurd (omega arith)) (λ m p i. p ∙ ap (λ (x : ℕ). x ∷ []) (let z : m ≡ n = cc in z))

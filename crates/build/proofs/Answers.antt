@@ -1,12 +1,12 @@
 -- What a map that building answers tells: its length is that of a map, it has room in the lent buffer, and its root is in limits. Assumes nothing.
 use mathlib.Core.Path.{_≡_, refl, sym, ap, _∙_}
 use mathlib.Core.Bool.{Bool, true, false, true≢false}
-use mathlib.Core.List.{List, [], _∷_}
+use mathlib.Core.List.{List, [], _∷_, _++_}
 use Prim.Native.Nat.{ℕ, _≤_}
 use native.Mathlib.Omega.{arith}
 use borrow.Author.Tests.{ltb-false}
 use lib.Dec.{ltb}
-use lib.ListN.{length}
+use lib.ListN.{length, drop}
 use Rattle.integers.proofs.Order.{by-test}
 use Rattle.sheet.specs.declared.Record.{Record}
 use Rattle.sheet.specs.declared.Checked.{Checked}
@@ -19,8 +19,10 @@ use Rattle.cube.specs.Cubes.{rootCube}
 use Rattle.zonemap.proofs.Bytes.{map-length}
 use Rattle.build.specs.declared.Reply.{Reply}
 use Rattle.build.specs.declared.Reply.the-variants.{Done, Sheet, Limits, OverRoot, OverSmaller, Short}
-use Rattle.build.specs.Solid.{leavesOf, pastOf, pastsOf}
-use Rattle.build.specs.Build.{Outcome, outcome, onFirst, builtMap, storedOf, solidOf, onSheet, buildOf, numberOf}
+use Rattle.colour.specs.Entries.{pastOf}
+use Rattle.build.specs.Solid.{leavesOf, pastsOf}
+use Rattle.integers.specs.First.{onFirst}
+use Rattle.build.specs.Build.{Outcome, outcome, builtMap, storedOf, solidOf, onSheet, buildOf, numberOf}
 
 abbrev isDone : Reply → Bool
 isDone (Done n) = true
@@ -38,41 +40,52 @@ module _ (n : ℕ) (out after : List ℕ) where
   no-other o h e = absurd (true≢false (ap (λ (o : Outcome). isDone (o .reply)) e ∙ h))
 
   -- a list whose first would decide for another reply is empty
-  none-first : (ns : List ℕ) (f : ℕ → Outcome) (rest : Outcome) → ((k : ℕ) → isDone (f k .reply) ≡ false) → done ≡ onFirst ns f rest → done ≡ rest
-  none-first [] f rest h e = e
+  none-first : (ns : List ℕ) (f : ℕ → Outcome) (rest : Outcome) → ((k : ℕ) → isDone (f k .reply) ≡ false) → done ≡ onFirst ns f rest → (ns ≡ []) × (done ≡ rest)
+  none-first [] f rest h e = (refl, e)
   none-first (k ∷ ks) f rest h e = no-other (f k) (h k) e
 
-  stored : (map : List ℕ) → done ≡ storedOf map out → (n ≡ length map) × (length map ≤ length out)
+  stored : (map : List ℕ) → done ≡ storedOf map out → (n ≡ length map) × (length map ≤ length out) × (after ≡ map ++ drop (length map) out)
   unfolding storedOf
   stored map e =
       by-test (ltb (length out) (length map))
       (λ h. no-other (outcome (Short (length map)) out) refl (rw h at e))
-      (λ h. (ap (λ (o : Outcome). numberOf (o .reply)) (rw h at e), ltb-false (length out) (length map) h))
+      (λ h. (ap (λ (o : Outcome). numberOf (o .reply)) (rw h at e), ltb-false (length out) (length map) h, ap (λ (o : Outcome). o .buffer) (rw h at e)))
+
+  -- the map of these records over this root stands at the start of the buffer
+  pub record Made (rs : List Record) (root : Root) : Type 0 where
+    pub within : inLimits root ≡ true
+    pub none : pastOf rs (rootCube root) ≡ []
+    pub size : n ≡ length (builtMap rs root)
+    pub room : n ≤ length out
+    pub bytes : after ≡ builtMap rs root ++ drop (length (builtMap rs root)) out
 
   module _ (rs : List Record) (root : Root) where
-    abbrev Made : Type 0
-    Made = (19 ≤ n) × (n ≤ length out) × (inLimits root ≡ true)
-
-    stored-made : inLimits root ≡ true → done ≡ storedOf (builtMap rs root) out → Made
-    unfolding builtMap
-    stored-made w e =
+    stored-made : inLimits root ≡ true → pastOf rs (rootCube root) ≡ [] → done ≡ storedOf (builtMap rs root) out → Made rs root
+    stored-made w p e =
         let t = stored (builtMap rs root) e in
-        let m = map-length root (leavesOf rs (root .d) (rootCube root)) in
-        (omega (arith, t .0, m), omega (arith, t .0, t .1), w)
+        record { within = w; none = p; size = t .0; room = omega (arith, t .0, t .1); bytes = t .2 }
 
-    solid-made : done ≡ solidOf rs root out → Made
+    solid-made : done ≡ solidOf rs root out → Made rs root
     unfolding solidOf
     solid-made e =
         by-test (inLimits root)
         (λ h.
         let p = none-first (pastOf rs (rootCube root)) (λ k. outcome (OverRoot k) out) _ (λ k. refl) (rw h at e) in
-        stored-made h (none-first (pastsOf rs (root .d) (rootCube root)) (λ k. outcome (OverSmaller k) out) _ (λ k. refl) p))
+        stored-made h (p .0) (none-first (pastsOf rs (root .d) (rootCube root)) (λ k. outcome (OverSmaller k) out) _ (λ k. refl) (p .1) .1))
         (λ h. no-other (outcome Limits out) refl (rw h at e))
 
-    sheet-made : (checked : Checked) → done ≡ onSheet checked rs root out → Made
-    sheet-made (Good k) e = solid-made e
-    sheet-made (Refused why) e = no-other (outcome (Sheet why) out) refl e
+module _ (s : List ℕ) (root : Root) (out after : List ℕ) (n : ℕ) where
+  sheet-made : (checked : Checked) → checkOf s ≡ checked → outcome (Done n) after ≡ onSheet checked (recordsOf s) root out → ((k : ℕ) × (checkOf s ≡ Good k)) × Made n out after (recordsOf s) root
+  sheet-made (Good k) c e = ((k, c), solid-made n out after (recordsOf s) root e)
+  sheet-made (Refused why) c e = no-other n out after (outcome (Sheet why) out) refl e
 
-pub map-made : (s : List ℕ) (root : Root) (out after : List ℕ) (r : Reply) (n : ℕ) → outcome r after ≡ buildOf s root out → r ≡ Done n → (19 ≤ n) × (n ≤ length out) × (inLimits root ≡ true)
-unfolding buildOf
-map-made s root out after r n e t = sheet-made n out after (recordsOf s) root (checkOf s) (ap (λ (r : Reply). outcome r after) (sym t) ∙ e)
+  -- the sheet is good, and its map stands at the start of the buffer
+  pub done-made : outcome (Done n) after ≡ buildOf s root out → ((k : ℕ) × (checkOf s ≡ Good k)) × Made n out after (recordsOf s) root
+  unfolding buildOf
+  done-made e = sheet-made (checkOf s) refl e
+
+  pub map-made : (r : Reply) → outcome r after ≡ buildOf s root out → r ≡ Done n → (19 ≤ n) × (n ≤ length out) × (inLimits root ≡ true)
+  unfolding builtMap
+  map-made r e t =
+      let m = done-made (ap (λ (r : Reply). outcome r after) (sym t) ∙ e) .1 in
+      (omega (arith, m .size, map-length root (leavesOf (recordsOf s) (root .d) (rootCube root))), m .room, m .within)

@@ -9,15 +9,15 @@ use Rattle.sheet.specs.declared.Record.{Record}
 use Rattle.cube.specs.declared.Cube.{Cube}
 use Rattle.cube.specs.Cubes.{childOf}
 use Rattle.colour.specs.declared.Judged.{Judged}
-use Rattle.colour.specs.Entries.{judgedOf}
+use Rattle.colour.specs.Entries.{judgedOf, pastOf}
 use Rattle.build.specs.declared.Counted.{Counted}
 use Rattle.build.specs.declared.Counted.the-variants.{Leaves, Past}
 use Rattle.build.specs.Tree.{upto}
-use Rattle.build.specs.Solid.{leavesOf, pastOf, pastsOf}
-use Rattle.build.specs.Build.{onFirst}
+use Rattle.build.specs.Solid.{leavesOf, pastsOf}
+use Rattle.integers.specs.First.{onFirst}
 use Rattle.build.specs.Counting.{grayJudged, aloneOf, countedOf}
 use Rattle.build.proofs.Tree.{upto-none, upto-more, upto-length, upto-most, Begins, begins-upto, begins-first}
-use Rattle.build.proofs.Cubes.{kidLeaves, kidPasts, kid-leaves, kid-pasts, leaves-split, pasts-split, leaves-end, leaves-flat, pasts-end, pasts-flat, pasts-own, leaves-few, cases, flat-is, Split}
+use Rattle.build.proofs.Cubes.{kidLeaves, kidPasts, kid-leaves, kid-pasts, leaves-split, pasts-split, leaves-end, leaves-flat, pasts-end, pasts-flat, pasts-own, leaves-few, solid-cases, flat-is, Split}
 
 -- ---- what an answer tells
 first-past : (l : List ℕ) (m n : ℕ) → onFirst l Past (Leaves m) ≡ Past n → Begins n l
@@ -49,7 +49,7 @@ module _ (rs : List Record) (left : ℕ) (q : Cube) where
   module _ (solid : ℕ) (last : solid + 1 ≡ length rs) (j : Judged) (e : j ≡ judgedOf rs q solid) where
     alone : (pastOf rs q ≡ [] → (pastsOf rs left q ≡ []) × (length (leavesOf rs left q) ≡ 1)) → aloneOf j ≡ countedOf rs left q
     alone f =
-        cases rs q solid last j e (λ p i. rw i (counts-leaves 1 (f p .0) (sym (f p .1))))
+        solid-cases rs q solid last j e (λ p i. rw i (counts-leaves 1 (f p .0) (sym (f p .1))))
         (λ n p i. rw i (counts-past n (pasts-own rs left q n (record { rest = []; is = p }))))
 
     pub alone-end : left ≡ 0 → aloneOf j ≡ countedOf rs left q

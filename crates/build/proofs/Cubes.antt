@@ -5,7 +5,6 @@ use mathlib.Core.List.{List, [], _∷_, _++_}
 use Prim.Native.Nat.{ℕ, zero, suc, _+_, _-_, _^_, _≤_, _<_}
 use native.Mathlib.Nat.{zero-lt-suc, le-trans, pow-le-pow-right}
 use native.Mathlib.Omega.{arith}
-use lib.Dec.{ltb}
 use lib.ListN.{length, getD}
 use Rattle.integers.proofs.Order.{by-test}
 use Rattle.sheet.specs.declared.Record.{Record}
@@ -15,9 +14,10 @@ use Rattle.zonemap.specs.declared.Leaf.{Leaf}
 use Rattle.colour.specs.declared.State.{State}
 use Rattle.colour.specs.declared.Judged.{Judged}
 use Rattle.colour.specs.declared.Judged.the-variants.{Known, Past}
-use Rattle.colour.specs.Entries.{blank, entries, beforePast, judgedOf}
+use Rattle.colour.specs.Entries.{blank, entries, judgedOf, pastOf}
+use Rattle.colour.proofs.Told.{cases, none-known}
 use Rattle.build.specs.Tree.{upto}
-use Rattle.build.specs.Solid.{solidState, isGray, leafOf, leavesOf, pastOf, pastsOf}
+use Rattle.build.specs.Solid.{solidState, isGray, leafOf, leavesOf, pastsOf}
 use Rattle.build.specs.Counting.{grayJudged, shownOf}
 use Rattle.build.proofs.Tree.{kid, visit-end, visit-flat, visit-gray, visit-most, Begins, begins-more}
 
@@ -86,35 +86,25 @@ module _ (rs : List Record) where
 
   -- ---- a cube that was judged
   module _ (q : Cube) (solid : ℕ) (last : solid + 1 ≡ length rs) (j : Judged) (e : j ≡ judgedOf rs q solid) where
-    abbrev past : Bool
-    past = ltb (beforePast (entries q rs)) (length rs)
-
     solid-is : getD (entries q rs) solid blank .state ≡ solidState rs q
     unfolding solidState
     solid-is = ap (λ (n : ℕ). getD (entries q rs) n blank .state) (let z : solid ≡ length rs - 1 = omega arith in z)
 
     -- the two cases
-    pub cases : {A : Type 0} → (pastOf rs q ≡ [] → j ≡ Known (solidState rs q) → A) → ((n : ℕ) → pastOf rs q ≡ n ∷ [] → j ≡ Past n → A) → A
-    unfolding judgedOf pastOf
-    cases f g = by-test past (λ t. g (beforePast (entries q rs)) (rw t) (e ∙ rw t)) (λ t. f (rw t) (e ∙ rw t (ap Known solid-is)))
-
-    pub known-none : (state : State) → j ≡ Known state → pastOf rs q ≡ []
-    known-none state k = cases (λ p i. p) (λ n p i. let z : _≡_ {A = ℕ} 0 1 = cc in absurd (omega arith))
-
-    pub past-first : (n : ℕ) → j ≡ Past n → pastOf rs q ≡ n ∷ []
-    past-first n k = cases (λ p i. let z : _≡_ {A = ℕ} 0 1 = cc in absurd (omega arith)) (λ m p i. p ∙ ap (λ (x : ℕ). x ∷ []) (let z : m ≡ n = cc in z))
+    pub solid-cases : {A : Type 0} → (pastOf rs q ≡ [] → j ≡ Known (solidState rs q) → A) → ((n : ℕ) → pastOf rs q ≡ n ∷ [] → j ≡ Past n → A) → A
+    solid-cases f g = cases rs q solid j e (λ p i. f p (i ∙ ap Known solid-is)) g
 
     -- where the code splits the cube, the definition does
     pub splits : (left : ℕ) → (left ≡ 0 → ⊥) → grayJudged j ≡ true → Split rs left q
     unfolding isGray
     splits left l g =
-        cases (λ p i. record { deep = omega (arith, l); gray = rw i at g; none = p })
+        solid-cases (λ p i. record { deep = omega (arith, l); gray = rw i at g; none = p })
         (λ n p i. let z : false ≡ true = rw i at g in let y : _≡_ {A = ℕ} 0 1 = cc in absurd (omega arith))
 
     -- what is known of it, where no record passes the limit
     module _ (none : pastOf rs q ≡ []) where
       known : j ≡ Known (solidState rs q)
-      known = cases (λ p i. i) (λ n p i. let z : [] ≡ n ∷ [] = sym none ∙ p in let y : _≡_ {A = ℕ} 0 1 = cc in absurd (omega arith))
+      known = none-known rs q solid j e none ∙ ap Known solid-is
 
       pub shown-is : shownOf j ≡ solidState rs q
       shown-is = rw known

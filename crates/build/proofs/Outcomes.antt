@@ -22,18 +22,19 @@ use Rattle.cube.proofs.Limits.{limits-sizes}
 use Rattle.colour.specs.declared.State.{State}
 use Rattle.colour.specs.declared.Judged.{Judged}
 use Rattle.colour.specs.declared.Judged.the-variants.{Known, Past}
-use Rattle.colour.specs.Entries.{judgedOf}
+use Rattle.colour.specs.Entries.{judgedOf, pastOf}
+use Rattle.colour.proofs.Told.{known-none, past-first}
 use Rattle.zonemap.specs.declared.Leaf.{Leaf}
 use Rattle.zonemap.specs.Map.{headerOf, leavesBytes, mapOf}
 use Rattle.zonemap.proofs.Bytes.{header-length, map-length, sets-append}
 use Rattle.build.specs.declared.Counted.{Counted}
 use Rattle.build.specs.declared.Counted.the-variants.{Leaves, Past as PastIn}
 use Rattle.build.specs.declared.Reply.the-variants.{Done, Sheet, Limits, OverRoot, OverSmaller, Short}
-use Rattle.build.specs.Solid.{leavesOf, pastOf, pastsOf}
+use Rattle.build.specs.Solid.{leavesOf, pastsOf}
 use Rattle.build.specs.Build.{Outcome, outcome, builtMap, storedOf, solidOf, buildOf}
 use Rattle.build.specs.Counting.{countedOf}
 use Rattle.build.proofs.Tree.{Begins, begins-first}
-use Rattle.build.proofs.Cubes.{leaves-few, known-none, past-first}
+use Rattle.build.proofs.Cubes.{leaves-few}
 use Rattle.build.proofs.Count.{tells-past, tells-leaves}
 
 -- ---- replies 1 to 5
@@ -64,15 +65,15 @@ module _ (rs : List Record) (root : Root) where
       pub counted-over : (n : ℕ) → c ≡ PastIn n → Begins n (pastsOf rs (root .d) (rootCube root))
       counted-over n h = tells-past rs (root .d) (rootCube root) n (sym counted ∙ h)
 
-    module _ (solid : ℕ) (last : solid + 1 ≡ length rs) (j : Judged) (e : j ≡ judgedOf rs q solid) where
+    module _ (solid : ℕ) (j : Judged) (e : j ≡ judgedOf rs q solid) where
       judged : j ≡ judgedOf rs (rootCube root) solid
       judged = e ∙ ap (λ (k : Cube). judgedOf rs k solid) is
 
       pub judged-none : (state : State) → j ≡ Known state → pastOf rs (rootCube root) ≡ []
-      judged-none state h = known-none rs (rootCube root) solid last j judged state h
+      judged-none state h = known-none rs (rootCube root) solid j judged state h
 
       pub judged-over : (n : ℕ) → j ≡ Past n → pastOf rs (rootCube root) ≡ n ∷ []
-      judged-over n h = past-first rs (rootCube root) solid last j judged n h
+      judged-over n h = past-first rs (rootCube root) solid j judged n h
 
 module _ (rs : List Record) (root : Root) (d : List ℕ) where
   abbrev top : Cube

@@ -28,12 +28,12 @@ use Rattle.cube.specs.Cubes.{rootCube, childOf}
 use Rattle.colour.specs.Bounds.{across, boundsOf}
 use Rattle.colour.specs.declared.State.the-variants.{In, Out, Single}
 use Rattle.colour.specs.States.{faceState, bothOf, stateOf}
-use Rattle.colour.specs.Entries.{Entry, blank, entryOf, entries, beforePast}
+use Rattle.colour.specs.Entries.{Entry, blank, entryOf, entries, beforePast, pastOf}
 use Rattle.zonemap.specs.declared.Leaf.{Leaf}
 use Rattle.zonemap.specs.Map.{leafBytes, leavesBytes, cornerBytes, headerOf, mapOf}
 use Rattle.build.specs.declared.Reply.the-variants.{Done, Short}
 use Rattle.build.specs.Tree.{upto, visit}
-use Rattle.build.specs.Solid.{solidState, isGray, leafOf, leavesOf, pastOf, pastsOf}
+use Rattle.build.specs.Solid.{solidState, isGray, leafOf, leavesOf, pastsOf}
 use Rattle.build.proofs.Cubes.{leaves-flat}
 use Rattle.build.specs.Build.{outcome, builtMap, storedOf, solidOf, buildOf}
 

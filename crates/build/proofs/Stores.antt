@@ -11,15 +11,15 @@ use Rattle.cube.specs.declared.Cube.{Cube}
 use Rattle.cube.specs.Cubes.{childOf}
 use Rattle.colour.specs.declared.State.{State}
 use Rattle.colour.specs.declared.Judged.{Judged}
-use Rattle.colour.specs.Entries.{judgedOf}
+use Rattle.colour.specs.Entries.{judgedOf, pastOf}
 use Rattle.zonemap.specs.declared.Leaf.{Leaf}
 use Rattle.zonemap.specs.Map.{leafBytes, leavesBytes}
 use Rattle.zonemap.proofs.Bytes.{leaves-bytes-length, leaves-bytes-append, sets-append}
 use Rattle.build.specs.Tree.{upto}
-use Rattle.build.specs.Solid.{leafBy, leafOf, leavesOf, pastOf, pastsOf}
+use Rattle.build.specs.Solid.{leafBy, leafOf, leavesOf, pastsOf}
 use Rattle.build.specs.Counting.{grayJudged, shownOf}
 use Rattle.build.proofs.Tree.{upto-none, upto-more, upto-length, upto-most, upto-nothing, none-right}
-use Rattle.build.proofs.Cubes.{kidLeaves, kidPasts, kid-leaves, kid-pasts, leaves-split, pasts-split, leaves-end, leaves-flat, pasts-own, cases, shown-is, flat-is, Split}
+use Rattle.build.proofs.Cubes.{kidLeaves, kidPasts, kid-leaves, kid-pasts, leaves-split, pasts-split, leaves-end, leaves-flat, pasts-own, solid-cases, shown-is, flat-is, Split}
 
 -- the leaves ls, written into d from `at` on: the place after them, and the bytes
 abbrev Put : List Leaf → List ℕ → ℕ → ℕ → List ℕ → Type 0
@@ -30,7 +30,7 @@ module _ (rs : List Record) (left : ℕ) (q : Cube) (none : pastsOf rs left q �
   module _ (solid : ℕ) (last : solid + 1 ≡ length rs) (j : Judged) (e : j ≡ judgedOf rs q solid) where
     own-none : pastOf rs q ≡ []
     own-none =
-        cases rs q solid last j e (λ p i. p)
+        solid-cases rs q solid last j e (λ p i. p)
         (λ n p i. let b = pasts-own rs left q n (record { rest = []; is = p }) in let z : _≡_ {A = ℕ} 0 (suc (length (b .rest))) = ap length (sym none ∙ b .is) in absurd (omega arith))
 
     module _ (one : leavesOf rs left q ≡ leafOf rs q ∷ []) (at : ℕ) where

@@ -11,7 +11,7 @@ use lib.ListN.{length, length-append}
 use Rattle.cube.specs.declared.Cube.{Cube}
 use Rattle.cube.specs.Cubes.{childOf}
 use Rattle.build.specs.Tree.{upto, visit}
-use Rattle.build.specs.Build.{onFirst}
+use Rattle.integers.specs.First.{onFirst}
 
 -- ---- lists end to end
 module _ {A : Type 0} (f : ℕ → List A) where

@@ -4,6 +4,7 @@ use mathlib.Core.Bool.{cond, not}
 use mathlib.Core.List.{List, [], _∷_, _++_}
 use lib.Dec.{ltb}
 use lib.ListN.{length, drop}
+use Rattle.integers.specs.First.{onFirst}
 use Rattle.sheet.specs.declared.Record.{Record}
 use Rattle.sheet.specs.declared.Checked.{Checked}
 use Rattle.sheet.specs.declared.Checked.the-variants.{Good, Refused}
@@ -15,7 +16,8 @@ use Rattle.cube.specs.Cubes.{rootCube}
 use Rattle.zonemap.specs.Map.{mapOf}
 use Rattle.build.specs.declared.Reply.{Reply}
 use Rattle.build.specs.declared.Reply.the-variants.{Done, Sheet, Limits, OverRoot, OverSmaller, Short}
-use Rattle.build.specs.Solid.{leavesOf, pastOf, pastsOf}
+use Rattle.colour.specs.Entries.{pastOf}
+use Rattle.build.specs.Solid.{leavesOf, pastsOf}
 
 -- the reply, and the bytes of the lent buffer afterwards
 pub record Outcome : Type 0 where
@@ -24,11 +26,6 @@ pub record Outcome : Type 0 where
 
 abbrev pub outcome : Reply → List ℕ → Outcome
 outcome r out = record { reply = r; buffer = out }
-
--- the first of a list decides, where there is one
-abbrev pub onFirst : {A : Type 0} → List ℕ → (ℕ → A) → A → A
-onFirst [] f rest = rest
-onFirst (n ∷ ns) f rest = f n
 
 -- the map that document 01's rules name
 unfoldable pub builtMap : List Record → Root → List ℕ

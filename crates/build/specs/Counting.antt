@@ -14,7 +14,7 @@ use Rattle.colour.specs.States.{classOf}
 use Rattle.build.specs.declared.Counted.{Counted}
 use Rattle.build.specs.declared.Counted.the-variants.{Leaves, Past as PastIn}
 use Rattle.build.specs.Solid.{leavesOf, pastsOf}
-use Rattle.build.specs.Build.{onFirst}
+use Rattle.integers.specs.First.{onFirst}
 
 abbrev pub grayJudged : Judged → Bool
 grayJudged (Known state) = eqb (classOf state) 4

@@ -1,14 +1,14 @@
 -- The solid of a sheet over a tree of cubes: its leaves, and the records whose bounds pass the limit. Assumes nothing: these are definitions.
 use Prim.Native.Nat.{ℕ, _-_}
-use mathlib.Core.Bool.{Bool, cond}
+use mathlib.Core.Bool.{Bool}
 use mathlib.Core.List.{List, [], _∷_}
-use lib.Dec.{eqb, ltb}
+use lib.Dec.{eqb}
 use lib.ListN.{length, getD}
 use Rattle.sheet.specs.declared.Record.{Record}
 use Rattle.cube.specs.declared.Cube.{Cube}
 use Rattle.colour.specs.declared.State.{State}
 use Rattle.colour.specs.States.{classOf, faceOf}
-use Rattle.colour.specs.Entries.{blank, entries, beforePast}
+use Rattle.colour.specs.Entries.{blank, entries, pastOf}
 use Rattle.zonemap.specs.declared.Leaf.{Leaf}
 use Rattle.build.specs.Tree.{visit}
 
@@ -31,10 +31,6 @@ leafOf rs q = leafBy (q .level) (solidState rs q)
 unfoldable pub leavesOf : List Record → ℕ → Cube → List Leaf
 leavesOf rs = visit (isGray rs) (λ q. []) (λ q. leafOf rs q ∷ [])
 
--- the first record whose bounds over a cube pass 2^60, where one does
-unfoldable pub pastOf : List Record → Cube → List ℕ
-pastOf rs q = cond (ltb (beforePast (entries q rs)) (length rs)) (beforePast (entries q rs) ∷ []) []
-
--- the same of all cubes, a cube before its children
+-- the first records whose bounds pass 2^60, of all cubes, a cube before its children
 unfoldable pub pastsOf : List Record → ℕ → Cube → List ℕ
 pastsOf rs = visit (isGray rs) (pastOf rs) (pastOf rs)

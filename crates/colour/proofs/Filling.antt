@@ -38,28 +38,7 @@ use Rattle.colour.specs.States.{classOf, faceOf, stateBy, stateOf}
 use Rattle.colour.specs.Held.{Held, heldAt}
 use Rattle.colour.specs.Entries.{Entry, blank, entryOf, entries, beforePast, judgedOf}
 use Rattle.colour.proofs.Arms.{zero-small}
-
--- ---- the first record past the limit
--- all of these keep it
-abbrev Keep : List Entry → Type 0
-Keep es = (a : ℕ) → SmallEnds (getD es a blank .bounds)
-
--- where those before an entry keep the limit and it does not, it is the first
-first-past : (es : List Entry) (e : Entry) (after : List Entry) → Keep es → isWithin (e .bounds) ≡ false → beforePast (es ++ e ∷ after) ≡ length es
-unfolding beforePast
-first-past [] e after k p = rw p
-first-past (x ∷ es) e after k p = rw (ends-within (x .bounds) (k 0)) (ap suc (first-past es e after (λ a. k (suc a)) p))
-
-none-past : (es : List Entry) → Keep es → beforePast es ≡ length es
-unfolding beforePast
-none-past [] k = refl
-none-past (x ∷ es) k = rw (ends-within (x .bounds) (k 0)) (ap suc (none-past es (λ a. k (suc a))))
-
-keep-more : (es : List Entry) (e : Entry) → Keep es → SmallEnds (e .bounds) → Keep (es ++ e ∷ [])
-keep-more [] e k h zero = h
-keep-more [] e k h (suc a) = k (suc a)
-keep-more (x ∷ es) e k h zero = k zero
-keep-more (x ∷ es) e k h (suc a) = keep-more es e (λ b. k (suc b)) h a
+use Rattle.colour.proofs.FirstPast.{Keep, first-past, none-past, keep-more}
 
 -- ---- the loop
 -- the entries of the first n records

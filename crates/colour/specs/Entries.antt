@@ -49,3 +49,7 @@ beforePast (e ∷ es) = cond (isWithin (e .bounds)) (suc (beforePast es)) 0
 unfoldable pub judgedOf : List Record → Cube → ℕ → Judged
 judgedOf rs q n =
     cond (ltb (beforePast (entries q rs)) (length rs)) (Past (beforePast (entries q rs))) (Known (getD (entries q rs) n blank .state))
+
+-- the first record whose bounds over a cube pass 2^60, where one does
+unfoldable pub pastOf : List Record → Cube → List ℕ
+pastOf rs q = cond (ltb (beforePast (entries q rs)) (length rs)) (beforePast (entries q rs) ∷ []) []

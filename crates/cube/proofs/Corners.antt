@@ -9,7 +9,7 @@ use mir.Val.{Fits}
 use Rattle.cube.specs.Cubes.{half, cornerOf}
 
 -- ---- digit
-two-eight : (n : ℕ) → 2 ^ (3 * n) ≡ 8 ^ n
+pub two-eight : (n : ℕ) → 2 ^ (3 * n) ≡ 8 ^ n
 two-eight zero = refl
 two-eight (suc n) = let e : 3 * suc n ≡ suc (suc (suc (3 * n))) = omega arith in rw e (omega (arith, two-eight n))
 
@@ -71,7 +71,7 @@ times-eight c n = let e : 8 ^ suc n ≡ 8 * 8 ^ n = omega arith in rw e (omega a
 pub times-two : (c n : ℕ) → c * 2 ^ suc n ≡ 2 * (c * 2 ^ n)
 times-two c n = let e : 2 ^ suc n ≡ 2 * 2 ^ n = omega arith in rw e (omega arith)
 
-half-zero : (axis : ℕ) → half axis 0 ≡ 0
+pub half-zero : (axis : ℕ) → half axis 0 ≡ 0
 half-zero axis = omega (arith, zero-div (2 ^ axis))
 
 pub corner-zero : (axis d : ℕ) → cornerOf axis d 0 ≡ 0

@@ -118,7 +118,7 @@ module _ (r : Root) (deep : r .d ≤ r .k) where
   unit = 2 ^ (r .k - r .d)
 
   -- a cube with n levels below it has 2^n smallest cubes a side
-  side-is : (level n : ℕ) → level + n ≡ r .d → 2 ^ (r .k - level) ≡ 2 ^ n * unit
+  pub side-is : (level n : ℕ) → level + n ≡ r .d → 2 ^ (r .k - level) ≡ 2 ^ n * unit
   side-is level n e = let s : r .k - level ≡ n + (r .k - r .d) = omega arith in rw s (pow-add 2 n (r .k - r .d))
 
   module _ (n level c k : ℕ) (e : level + suc n ≡ r .d) (l : k < 8) where

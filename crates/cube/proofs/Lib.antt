@@ -2,3 +2,5 @@ pub mod Limits
 pub mod Planes
 pub mod Corners
 pub mod Cubes
+pub mod Places
+pub mod Rows

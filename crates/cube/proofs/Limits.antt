@@ -13,7 +13,7 @@ use Rattle.integers.proofs.Order.{leZ-true}
 use Rattle.cube.specs.declared.Root.{Root}
 use Rattle.cube.specs.Limits.{axisFits, sizesFit, inLimits}
 
-both : (a b : Bool) → (a && b) ≡ true → (a ≡ true) × (b ≡ true)
+pub both : (a b : Bool) → (a && b) ≡ true → (a ≡ true) × (b ≡ true)
 both true b e = (refl, e)
 both false b e = absurd (true≢false (sym e))
 

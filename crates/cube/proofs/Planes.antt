@@ -1,20 +1,23 @@
--- The needs of `axis_fits`, `sizes_fit`, `is_within`, `power` and `moved`, each as it stands: the machine reads a number back from its bits. Assumes nothing.
+-- The needs of `axis_fits`, `axis_holds`, `sizes_fit`, `is_within`, `holds`, `power`, `moved` and `steps_to`, each as it stands: the machine reads a number back from its bits. Assumes nothing.
 use mathlib.Core.Path.{_≡_, sym, _∙_}
 use mathlib.Core.Bool.{Bool, true, false}
-use Prim.Native.Nat.{ℕ, suc, _+_, _*_, _%_, _≤_, _<_, _^_}
+use Prim.Native.Nat.{ℕ, suc, _+_, _*_, _/_, _%_, _≤_, _<_, _^_}
 use native.Mathlib.Omega.{arith}
 use borrow.Author.Tests.{le-leb, lt-leb}
-use lib.Dec.{leb}
+use lib.Dec.{T, leb}
 use lib.Pow.{pow-mono}
-use lib.IntN.{ℤ, pos, negsuc, natAbs, _+ℤ_}
-use lib.Signed.{mag, leZ}
+use lib.IntN.{ℤ, pos, negsuc, natAbs, _+ℤ_, _-ℤ_}
+use lib.Signed.{mag, leZ, ltZ, nonNeg, _≤ℤ_}
 use mir.Syntax.{w32, w64}
 use mir.Val.{Fits, SFits, toZ, ofZ}
 use mir.Facts.{toZ-ofZ, toZ-pos}
-use Rattle.integers.proofs.Naturals.{abs-+}
-use Rattle.integers.proofs.Machine.{fits}
+use Rattle.integers.proofs.Naturals.{ints, abs-+, minus-is}
+use Rattle.integers.proofs.Machine.{fits, result-fits, result-back}
 use Rattle.cube.specs.declared.Root.{Root}
+use Rattle.cube.specs.declared.Cube.{Cube}
+use Rattle.cube.specs.declared.Point.{Point}
 use Rattle.cube.specs.Limits.{axisFits, sizesFit, inLimits}
+use Rattle.cube.specs.Points.{axisHolds, holdsPoint}
 use Rattle.cube.proofs.Limits.{sizes-are}
 
 -- ---- axis_fits
@@ -47,6 +50,17 @@ module _ (low : ℤ) (f : SFits w32 low) where
   unfolding axisFits
   plane-low side t = t ∙ rw (rw (toZ-ofZ f) at t)
 
+-- ---- axis_holds
+module _ (low v : ℤ) (side : ℕ) (f : SFits w32 low) (g : SFits w32 v) where
+  pub held-high : (s : Fits w32 side) → leZ (toZ w32 (ofZ w32 low)) (toZ w32 (ofZ w32 v)) ≡ true →
+      ltZ (toZ w64 (ofZ w64 (toZ w32 (ofZ w32 v)))) (toZ w64 (ofZ w64 (Sum low f side s))) ≡ axisHolds low side v
+  unfolding axisHolds
+  held-high s t = rw (sum-is low f side s, toZ-ofZ (sum-fits low f side s), toZ-ofZ (wide v g), toZ-ofZ g, rw (toZ-ofZ f, toZ-ofZ g) at t)
+
+  pub held-low : leZ (toZ w32 (ofZ w32 low)) (toZ w32 (ofZ w32 v)) ≡ false → leZ (toZ w32 (ofZ w32 low)) (toZ w32 (ofZ w32 v)) ≡ axisHolds low side v
+  unfolding axisHolds
+  held-low t = t ∙ rw (rw (toZ-ofZ f, toZ-ofZ g) at t)
+
 -- ---- sizes_fit
 module _ (k d : ℕ) where
   pub sizes-all : k ≤ 16 → d ≤ 10 → leb d k ≡ sizesFit k d
@@ -78,6 +92,48 @@ module _ (low : ℤ) (by : ℕ) (h : natAbs low + by ≤ 2 ^ 21) where
 
   pub moved-is : toZ w32 (ofZ w32 (toZ w32 (ofZ w32 low) +ℤ toZ w32 by)) ≡ low +ℤ pos by
   moved-is = rw moved-back (toZ-ofZ small)
+
+-- ---- steps_to
+no-sign : (a : ℤ) → pos 0 ≤ℤ a → T (nonNeg a)
+no-sign (pos n) h = tt
+no-sign (negsuc n) h = absurd (h .le)
+
+module _ (low v : ℤ) (f : SFits w32 low) (g : SFits w32 v) (h : low ≤ℤ v) (near : natAbs (v -ℤ low) ≤ 2 ^ 21) where
+  abbrev Gap : ℤ
+  Gap = toZ w32 (ofZ w32 v) -ℤ toZ w32 (ofZ w32 low)
+
+  gap-small : SFits w32 (v -ℤ low)
+  gap-small = fits w32 (v -ℤ low) (omega arith)
+
+  pub gap-fits : SFits w32 Gap
+  gap-fits = result-fits w32 _-ℤ_ v low g f gap-small
+
+  gap-back : toZ w32 (ofZ w32 Gap) ≡ v -ℤ low
+  gap-back = result-back w32 _-ℤ_ v low g f gap-small
+
+  pub gap-cast : T (nonNeg (toZ w32 (ofZ w32 Gap))) × Fits w32 (natAbs (toZ w32 (ofZ w32 Gap)))
+  gap-cast = rw gap-back (no-sign (v -ℤ low) (omega (arith, ints, minus-is v low)), record { fits = omega arith })
+
+  pub gap-steps : (n : ℕ) → natAbs (toZ w32 (ofZ w32 Gap)) / 2 ^ n ≡ natAbs (v -ℤ low) / 2 ^ n
+  gap-steps n = rw gap-back
+
+-- ---- holds: x, y and z are what the calls answered
+held-told : (low v : ℤ) (side : ℕ) (b : Bool) → SFits w32 low → SFits w32 v → b ≡ axisHolds (toZ w32 (ofZ w32 low)) side (toZ w32 (ofZ w32 v)) → axisHolds low side v ≡ b
+held-told low v side b f g e = sym (rw (toZ-ofZ f, toZ-ofZ g) at e)
+
+module _ (q : Cube) (p : Point) (x : Bool) (fx : SFits w32 (q .x)) (gx : SFits w32 (p .x)) (ex : x ≡ axisHolds (toZ w32 (ofZ w32 (q .x))) (q .side) (toZ w32 (ofZ w32 (p .x)))) where
+  pub holds-not-x : x ≡ false → false ≡ holdsPoint q p
+  unfolding holdsPoint
+  holds-not-x h = rw (held-told _ _ _ _ fx gx ex, h)
+
+  module _ (y : Bool) (hx : x ≡ true) (fy : SFits w32 (q .y)) (gy : SFits w32 (p .y)) (ey : y ≡ axisHolds (toZ w32 (ofZ w32 (q .y))) (q .side) (toZ w32 (ofZ w32 (p .y)))) where
+    pub holds-not-y : y ≡ false → y ≡ holdsPoint q p
+    unfolding holdsPoint
+    holds-not-y h = rw (held-told _ _ _ _ fx gx ex, hx, held-told _ _ _ _ fy gy ey, h)
+
+    pub holds-z : (z : Bool) → y ≡ true → SFits w32 (q .z) → SFits w32 (p .z) → z ≡ axisHolds (toZ w32 (ofZ w32 (q .z))) (q .side) (toZ w32 (ofZ w32 (p .z))) → z ≡ holdsPoint q p
+    unfolding holdsPoint
+    holds-z z h fz gz ez = rw (held-told _ _ _ _ fx gx ex, hx, held-told _ _ _ _ fy gy ey, h, held-told _ _ _ _ fz gz ez)
 
 -- ---- is_within: s, x, y and z are what the calls answered
 pub side-small : (k d : ℕ) (s : Bool) → s ≡ sizesFit k d → s ≡ true → k ≤ 16

@@ -1,4 +1,6 @@
-// The root with its depth, and the cubes it is split into.
+// The root with its depth, the cubes it is split into, and its points.
+
+mod points;
 
 ghost use mathlib.Core.Path.{_≡_};
 ghost use mathlib.Core.Bool.{true};
@@ -23,6 +25,13 @@ pub struct Cube {
     pub z: i32,
     pub side: u32,
     pub level: u8,
+}
+
+// A whole point.
+pub struct Point {
+    pub x: i32,
+    pub y: i32,
+    pub z: i32,
 }
 
 // Whether both planes of an axis lie in -2^20 to 2^20. The high one is worked out in 64 bits, where no sum wraps.

@@ -1,7 +1,7 @@
 // The library's face to C and Rust: each call has the contract of the proved call behind it.
 
 ghost use mathlib.Core.Path.{_≡_};
-ghost use Rattle.zone.specs.Replies.{zoneOutcome, zoneBuildOf};
+ghost use Rattle.zone.specs.Replies.{zoneOutcome, zoneBuildOf, zoneLookupOf};
 
 // A reply by document 01's code and number.
 #[repr(C)]
@@ -24,6 +24,18 @@ pub extern "C" fn zone_build(
     ensures { λ r. ⌜ zoneOutcome r (now (out .exit)) ≡ zoneBuildOf (now (sheet .entry)) (record { x = x; y = y; z = z; k = k; d = d }) (now (out .entry)) ⌝ }
 {
     let reply = build::build(sheet, x, y, z, k, d, out);
+    ZoneReply {
+        code: reply.code(),
+        number: reply.number() as u64,
+    }
+}
+
+// Looks a position up in a zone map. It only reads.
+#[no_mangle]
+pub extern "C" fn zone_lookup(sheet: &[u8], map: &[u8], x: i32, y: i32, z: i32) -> ZoneReply
+    ensures { λ r. ⌜ r ≡ zoneLookupOf (now (sheet .entry)) (now (map .entry)) (record { x = x; y = y; z = z }) ⌝ }
+{
+    let reply = lookup::lookup(sheet, map, x, y, z);
     ZoneReply {
         code: reply.code(),
         number: reply.number() as u64,

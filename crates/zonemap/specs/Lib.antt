@@ -1,1 +1,3 @@
 pub mod Map
+pub mod Opening
+pub mod Leaves

@@ -1,6 +1,11 @@
-// The zone map: its leaves and its bytes.
+// The zone map: its leaves and its bytes, written and read.
+
+mod opening;
 
 use cube::Root;
+pub use opening::find;
+pub use opening::leaf_at;
+pub use opening::read_header;
 ghost use mathlib.Core.Path.{_≡_};
 ghost use Prim.Native.Nat.{_+_, _≤_, _^_};
 ghost use lib.ListN.{length};
@@ -14,7 +19,19 @@ pub struct Leaf {
     pub face: u8,
 }
 
-const VERSION: u8 = 1;
+// What the bytes before the leaves tell: the root, or the offset of their first fault.
+pub enum Header {
+    Good(Root),
+    Bad(usize),
+}
+
+// What the leaves tell: the offset of the leaf that holds a place, or that of the first fault.
+pub enum Opened {
+    Good(usize),
+    Bad(usize),
+}
+
+pub const VERSION: u8 = 1;
 
 // Writes the root's low corner, at bytes 5 to 16.
 fn put_corner(out: &mut [u8], root: Root)

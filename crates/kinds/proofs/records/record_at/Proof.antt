@@ -1,9 +1,9 @@
--- `kinds::record_at` meets its contract: the kind tells how many bytes follow it, and which record they make. Assumes nothing.
+-- `kinds::records::record_at` meets its contract: the kind tells how many bytes follow it, and which record they make. Assumes nothing.
 use native.Mathlib.Omega.{arith}
 use Rattle.kinds.proofs.ByKind.{kind-room, record-room, record-is, record-constant, complement-room, complement-is}
 use borrow.Author.Needs.{needs}
-use Rattle.kinds.proofs.record_at.Statement.{statement}
-use Rattle.kinds.proofs.record_at.Tie as tie
+use Rattle.kinds.proofs.records.record_at.Statement.{statement}
+use Rattle.kinds.proofs.records.record_at.Tie as tie
 
 add-match : tie.Need-add-match
 add-match c = search needs

@@ -1,0 +1,33 @@
+-- What a cube that was judged tells: the state of the record that was asked, or the first record past the limit. Assumes nothing.
+use mathlib.Core.Path.{_≡_, sym, ap, _∙_}
+use mathlib.Core.List.{List, [], _∷_}
+use Prim.Native.Nat.{ℕ}
+use native.Mathlib.Omega.{arith}
+use lib.Dec.{ltb}
+use lib.ListN.{length, getD}
+use Rattle.integers.proofs.Order.{by-test}
+use Rattle.sheet.specs.declared.Record.{Record}
+use Rattle.cube.specs.declared.Cube.{Cube}
+use Rattle.colour.specs.declared.State.{State}
+use Rattle.colour.specs.declared.Judged.{Judged}
+use Rattle.colour.specs.declared.Judged.the-variants.{Known, Past}
+use Rattle.colour.specs.Entries.{blank, entries, beforePast, judgedOf, pastOf}
+
+module _ (rs : List Record) (q : Cube) (which : ℕ) (j : Judged) (e : j ≡ judgedOf rs q which) where
+  abbrev asked : State
+  asked = getD (entries q rs) which blank .state
+
+  -- the two cases
+  pub cases : {A : Type 0} → (pastOf rs q ≡ [] → j ≡ Known asked → A) → ((n : ℕ) → pastOf rs q ≡ n ∷ [] → j ≡ Past n → A) → A
+  unfolding judgedOf pastOf
+  cases f g = by-test (ltb (beforePast (entries q rs)) (length rs)) (λ t. g (beforePast (entries q rs)) (rw t) (e ∙ rw t)) (λ t. f (rw t) (e ∙ rw t))
+
+  pub known-none : (state : State) → j ≡ Known state → pastOf rs q ≡ []
+  known-none state k = cases (λ p i. p) (λ n p i. let z : _≡_ {A = ℕ} 0 1 = cc in absurd (omega arith))
+
+  pub past-first : (n : ℕ) → j ≡ Past n → pastOf rs q ≡ n ∷ []
+  past-first n k = cases (λ p i. let z : _≡_ {A = ℕ} 0 1 = cc in absurd (omega arith)) (λ m p i. p ∙ ap (λ (x : ℕ). x ∷ []) (let z : m ≡ n = cc in z))
+
+  -- where no record passes the limit, the state is known
+  pub none-known : pastOf rs q ≡ [] → j ≡ Known asked
+  none-known none = cases (λ p i. i) (λ n p i. let z : [] ≡ n ∷ [] = sym none ∙ p in let y : _≡_ {A = ℕ} 0 1 = cc in absurd (omega arith))

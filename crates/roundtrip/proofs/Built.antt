@@ -1,0 +1,143 @@
+-- The leaves that building enumerates run from the root's first place to its last: each is good at its own place, and is the leaf of the cube there. So a built map
+-- opens, with these leaves. Assumes nothing.
+use mathlib.Core.Path.{_≡_, refl, sym, ap, _∙_}
+use mathlib.Core.Bool.{Bool, true, false, _&&_, _||_, not}
+use mathlib.Core.List.{List, [], _∷_}
+use Prim.Native.Nat.{ℕ, zero, suc, _+_, _-_, _*_, _%_, _^_, _≤_, _<_}
+use native.Mathlib.Nat.{mul-mod-left, mul-le-mul-right}
+use native.Mathlib.Omega.{arith}
+use borrow.Author.Tests.{eq-eqb, le-leb}
+use lib.Dec.{eqb, leb}
+use lib.ListN.{length, getD}
+use Rattle.integers.proofs.Order.{by-test}
+use Rattle.sheet.specs.declared.Record.{Record}
+use Rattle.kinds.specs.Faces.{hasFace}
+use Rattle.cube.specs.declared.Root.{Root}
+use Rattle.cube.specs.declared.Cube.{Cube}
+use Rattle.cube.specs.Limits.{inLimits}
+use Rattle.cube.specs.Cubes.{rootCube, childOf, cubeAt}
+use Rattle.cube.proofs.Limits.{limits-sizes}
+use Rattle.cube.proofs.Corners.{times-eight}
+use Rattle.cube.proofs.Cubes.{child-cube, root-cube}
+use Rattle.zonemap.specs.declared.Leaf.{Leaf}
+use Rattle.zonemap.specs.Map.{mapOf}
+use Rattle.zonemap.specs.Opening.{rootOf, sizeOf, levelGood, faceGood, placeGood, leafGood, faultOf, leavesOf as leavesIn}
+use Rattle.zonemap.specs.Leaves.{placeAt, nowhere}
+use Rattle.zonemap.proofs.Runs.{Run, Fine, run-append, run-map, run-at}
+use Rattle.zonemap.proofs.Trip.{leaves-back, root-back, map-opens}
+use Rattle.colour.specs.declared.State.{State}
+use Rattle.colour.specs.declared.State.the-variants.{Out, In, Single, Comp, Mixed}
+use Rattle.colour.specs.States.{classOf}
+use Rattle.build.specs.Tree.{upto}
+use Rattle.build.specs.Solid.{solidState, isGray, leafBy, leafOf, leavesOf}
+use Rattle.build.specs.Build.{builtMap}
+use Rattle.build.proofs.Cubes.{kidLeaves, kid-leaves, leaves-split, leaves-end, leaves-flat, leaves-few}
+use Rattle.roundtrip.proofs.Named.{solid-good}
+
+-- n runs of one size, one after the other
+run-upto : (Each : ℕ → Leaf → Type 0) (d p s n : ℕ) (f : ℕ → List Leaf) → ((k : ℕ) → k < n → Run Each d (p + k * s) (f k) (p + k * s + s)) → Run Each d p (upto f n) (p + n * s)
+unfolding Run upto
+run-upto Each d p s zero f h = omega arith
+run-upto Each d p s (suc n) f h =
+    let e : p + suc n * s ≡ p + n * s + s = omega arith in
+    rw e (run-append Each d p (p + n * s) (p + n * s + s) (upto f n) (f n) (run-upto Each d p s n f (λ k l. h k (omega arith))) (h n (omega arith)))
+
+-- ---- one leaf
+class-few : (s : State) → leb (classOf s) 4 ≡ true
+class-few Out = refl
+class-few In = refl
+class-few (Single f) = refl
+class-few (Comp f) = refl
+class-few Mixed = refl
+
+-- gray only at level d: at the last level, or not gray
+level-good : (d level : ℕ) (s : State) → level ≤ d → (not (eqb (classOf s) 4) || eqb level d) ≡ true → levelGood d (leafBy level s) ≡ true
+unfolding levelGood
+level-good d level s h g = rw (le-leb level d h, class-few s, g)
+
+last-level : (b : Bool) (level d : ℕ) → level ≡ d → (not b || eqb level d) ≡ true
+last-level true level d e = eq-eqb level d e
+last-level false level d e = refl
+
+not-gray : (b c : Bool) → b ≡ false → (not b || c) ≡ true
+not-gray b c e = rw e
+
+module _ (rs : List Record) (root : Root) (within : inLimits root ≡ true) where
+  abbrev d : ℕ
+  d = root .d
+
+  -- good at its place, and the leaf of the cube there
+  abbrev pub True : ℕ → Leaf → Type 0
+  True p l = (leafGood (hasFace rs) d p l ≡ true) × (l ≡ leafOf rs (cubeAt root p (l .level)))
+
+  module _ (n level c : ℕ) (e : level + n ≡ d) (h : c * 8 ^ n + 8 ^ n ≤ 8 ^ d) where
+    abbrev here : Cube
+    here = cubeAt root (c * 8 ^ n) level
+
+    place-good : placeGood d (c * 8 ^ n) (leafOf rs here) ≡ true
+    unfolding placeGood leafOf cubeAt
+    place-good =
+        let w : d - level ≡ n = omega arith in
+        rw (w, eq-eqb (c * 8 ^ n % 8 ^ n) 0 (mul-mod-left c (8 ^ n)), le-leb (c * 8 ^ n + 8 ^ n) (8 ^ d) h)
+
+    single : (not (isGray rs here) || eqb level d) ≡ true → Run True d (c * 8 ^ n) (leafOf rs here ∷ []) (c * 8 ^ n + 8 ^ n)
+    unfolding Run leafGood leafOf isGray cubeAt
+    single g =
+        let w : d - level ≡ n = omega arith in
+        let v : c * 8 ^ n + 8 ^ (d - level) ≡ c * 8 ^ n + 8 ^ n = ap (λ (k : ℕ). c * 8 ^ n + 8 ^ k) w in
+        ((rw (level-good d level (solidState rs here) (omega arith) g, solid-good rs level here, place-good), refl), v)
+
+  -- child k of the cube at a place
+  part : (c n k : ℕ) → (c * 8 + k) * 8 ^ n ≡ c * 8 ^ suc n + k * 8 ^ n
+  part c n k = omega (arith, times-eight c n)
+
+  leaves-run : (n level c : ℕ) → level + n ≡ d → c * 8 ^ n + 8 ^ n ≤ 8 ^ d → Run True d (c * 8 ^ n) (leavesOf rs n (cubeAt root (c * 8 ^ n) level)) (c * 8 ^ n + 8 ^ n)
+  leaves-run zero level c e h = rw (leaves-end rs 0 _ refl) (single zero level c e h (last-level (isGray rs (cubeAt root (c * 8 ^ 0) level)) level d (omega arith)))
+  leaves-run (suc n) level c e h =
+      let q : Cube = cubeAt root (c * 8 ^ suc n) level in
+      by-test (isGray rs q)
+      (λ t.
+      let z : c * 8 ^ suc n + 8 ^ suc n ≡ c * 8 ^ suc n + 8 * 8 ^ n = omega arith in
+      rw (leaves-split rs (suc n) q (omega arith) t, z)
+      (run-upto True d (c * 8 ^ suc n) (8 ^ n) 8 (kidLeaves rs (suc n) q)
+      (λ k l.
+      let m : suc n - 1 ≡ n = omega arith in
+      let kid : kidLeaves rs (suc n) q k ≡ leavesOf rs n (cubeAt root ((c * 8 + k) * 8 ^ n) (level + 1)) =
+      kid-leaves rs (suc n) q k ∙ ap (λ (i : ℕ). leavesOf rs i (childOf q k)) m ∙ ap (leavesOf rs n) (child-cube root (limits-sizes root within .2) n level c k e l ∙ ap (λ (i : ℕ). cubeAt root i (level + 1)) (sym (part c n k))) in
+      rw (kid, ← part c n k)
+      (leaves-run n (level + 1) (c * 8 + k) (omega arith)
+      (let b : k ≤ 7 = omega arith in omega (arith, part c n k, mul-le-mul-right (8 ^ n) b))))))
+      (λ t. rw (leaves-flat rs (suc n) q t) (single (suc n) level c e h (not-gray (isGray rs q) (eqb level d) t)))
+
+  -- the leaves of the root
+  abbrev pub all : List Leaf
+  all = leavesOf rs d (rootCube root)
+
+  pub root-run : Run True d 0 all (8 ^ d)
+  root-run =
+      let r = leaves-run d 0 0 (omega arith) (omega arith) in
+      let z : 0 * 8 ^ d ≡ 0 = omega arith in
+      let y : 0 + 8 ^ d ≡ 8 ^ d = omega arith in
+      rw (z, y, root-cube root) at r
+
+  all-few : length all ≤ 2 ^ 30
+  all-few = leaves-few rs d (rootCube root) (limits-sizes root within .1)
+
+  -- THE ROUND TRIP: a built map opens, and has the root and the leaves that it was built of
+  pub built-opens : faultOf (hasFace rs) (builtMap rs root) ≡ []
+  unfolding builtMap
+  built-opens = map-opens (hasFace rs) root all within all-few (run-map True d (Fine (hasFace rs) d) (λ p l t. t .0) 0 (8 ^ d) all root-run)
+
+  pub built-root : rootOf (builtMap rs root) ≡ root
+  unfolding builtMap
+  built-root = root-back root all within
+
+  pub built-leaves : leavesIn (builtMap rs root) ≡ all
+  unfolding builtMap
+  built-leaves = leaves-back root all
+
+  -- each leaf is that of the cube at its own place
+  pub leaf-is : (i : ℕ) → i < length all → getD all i nowhere ≡ leafOf rs (cubeAt root (placeAt d i all) (getD all i nowhere .level))
+  leaf-is i h =
+      let z : 0 + placeAt d i all ≡ placeAt d i all = omega arith in
+      rw z at (run-at True d 0 (8 ^ d) i all root-run h .1)

@@ -1,0 +1,107 @@
+-- A state that names a face names a face of the sheet. Assumes nothing.
+use mathlib.Core.Path.{_≡_, refl, sym, ap, _∙_}
+use mathlib.Core.Bool.{Bool, true, false, cond, _||_}
+use mathlib.Core.List.{List, [], _∷_, _++_}
+use Prim.Native.Nat.{ℕ, _-_}
+use lib.IntN.{pos}
+use lib.ListN.{length, getD}
+use lib.Seq.{getD-append-seam}
+use lib.Signed.{leZ, ltZ}
+use Rattle.interval.specs.declared.Interval.{Interval}
+use Rattle.sheet.specs.declared.Record.{Record}
+use Rattle.sheet.specs.declared.Record.the-variants.{Constant, X, Y, Z, Sum, Difference, Product, Square, Face, Both, Either, Complement}
+use Rattle.sheet.specs.Along.{along}
+use Rattle.sheet.proofs.Along.{Pairs, length-along, related-in}
+use Rattle.kinds.specs.Faces.{isFace, hasFace}
+use Rattle.cube.specs.declared.Cube.{Cube}
+use Rattle.zonemap.specs.Opening.{faceGood}
+use Rattle.colour.specs.declared.State.{State}
+use Rattle.colour.specs.declared.State.the-variants.{Out, In, Single, Comp, Mixed}
+use Rattle.colour.specs.States.{isIn, isOut, faceState, complementOf, bothOf, eitherOf, stateOf}
+use Rattle.colour.specs.Entries.{Entry, blank, entryOf, entries}
+use Rattle.build.specs.Solid.{solidState, leafBy}
+
+module _ (rs : List Record) where
+  -- the face that a state names, where it names one, is a face of the sheet
+  abbrev names : State → Bool
+  names Out = true
+  names In = true
+  names (Single f) = hasFace rs f
+  names (Comp f) = hasFace rs f
+  names Mixed = true
+
+  face-names : (i : Interval) (f : ℕ) → hasFace rs f ≡ true → names (faceState i f) ≡ true
+  unfolding faceState
+  face-names i f h = by (leZ (i .high) (pos 0)) (ltZ (pos 0) (i .low))
+    where
+      by : (a b : Bool) → names (cond a In (cond b Out (Single f))) ≡ true
+      by true b = refl
+      by false true = refl
+      by false false = h
+
+  complement-names : (s : State) → names s ≡ true → names (complementOf s) ≡ true
+  complement-names Out h = refl
+  complement-names In h = refl
+  complement-names (Single f) h = h
+  complement-names (Comp f) h = h
+  complement-names Mixed h = refl
+
+  -- one of the two states, a third that names none, or Mixed
+  one-names : (a b c : Bool) (s t u : State) → names s ≡ true → names t ≡ true → names u ≡ true → names (cond a u (cond b t (cond c s Mixed))) ≡ true
+  one-names true b c s t u hs ht hu = hu
+  one-names false true c s t u hs ht hu = ht
+  one-names false false true s t u hs ht hu = hs
+  one-names false false false s t u hs ht hu = refl
+
+  both-names : (s t : State) → names s ≡ true → names t ≡ true → names (bothOf s t) ≡ true
+  unfolding bothOf
+  both-names s t hs ht = one-names (isOut s || isOut t) (isIn s) (isIn t) s t Out hs ht refl
+
+  either-names : (s t : State) → names s ≡ true → names t ≡ true → names (eitherOf s t) ≡ true
+  unfolding eitherOf
+  either-names s t hs ht = one-names (isIn s || isIn t) (isOut s) (isOut t) s t In hs ht refl
+
+  module _ (q : Cube) where
+    abbrev itself : List Record → Record → Record
+    itself _ r = r
+
+    abbrev Names : Entry → Record → Type 0
+    Names e _ = names (e .state) ≡ true
+
+    -- a face's own number is that of a face
+    own : (before after : List Record) (a : ℕ) → before ++ Face a ∷ after ≡ rs → hasFace rs (length (along (entryOf q) before)) ≡ true
+    unfolding hasFace
+    own before after a e =
+        ap isFace (ap (λ n. getD rs n X) (length-along (entryOf q) before) ∙ ap (λ l. getD l (length before) X) (sym e) ∙ getD-append-seam before (Face a) after X)
+
+    step-names : (before : List Record) (r : Record) (after : List Record) → before ++ r ∷ after ≡ rs
+        → Pairs Names blank X (along (entryOf q) before) (along itself before) → names (entryOf q (along (entryOf q) before) r .state) ≡ true
+    unfolding entryOf stateOf
+    step-names before (Constant c) after e p = refl
+    step-names before X after e p = refl
+    step-names before Y after e p = refl
+    step-names before Z after e p = refl
+    step-names before (Sum a b) after e p = refl
+    step-names before (Difference a b) after e p = refl
+    step-names before (Product a b) after e p = refl
+    step-names before (Square a) after e p = refl
+    step-names before (Face a) after e p = face-names _ _ (own before after a e)
+    step-names before (Both a b) after e p = both-names _ _ (p .each a) (p .each b)
+    step-names before (Either a b) after e p = either-names _ _ (p .each a) (p .each b)
+    step-names before (Complement a) after e p = complement-names (getD (along (entryOf q) before) a blank .state) (p .each a)
+
+    state-names : (i : ℕ) → names (getD (entries q rs) i blank .state) ≡ true
+    state-names i = related-in Names blank X refl (entryOf q) itself rs step-names .each i
+
+  -- so the face number of a leaf is good
+  state-good : (level : ℕ) (s : State) → names s ≡ true → faceGood (hasFace rs) (leafBy level s) ≡ true
+  unfolding faceGood
+  state-good level Out h = refl
+  state-good level In h = refl
+  state-good level (Single f) h = h
+  state-good level (Comp f) h = h
+  state-good level Mixed h = refl
+
+  pub solid-good : (level : ℕ) (q : Cube) → faceGood (hasFace rs) (leafBy level (solidState rs q)) ≡ true
+  unfolding solidState
+  solid-good level q = state-good level (solidState rs q) (state-names q (length rs - 1))

@@ -1,0 +1,83 @@
+-- Runs of leaves: a map opens exactly where its leaves run from 0 to 8^d, each good at its own place. Assumes nothing.
+use mathlib.Core.Path.{_≡_}
+use mathlib.Core.Bool.{Bool, true, _&&_, and-eq-true-iff}
+use mathlib.Core.List.{List, [], _∷_, _++_}
+use Prim.Native.Nat.{ℕ, zero, suc, _+_, _%_, _^_, _≤_, _<_}
+use native.Mathlib.Omega.{arith}
+use borrow.Author.Tests.{leb-true, eqb-true, eq-eqb}
+use lib.Dec.{eqb, leb}
+use lib.ListN.{length, getD}
+use Rattle.integers.proofs.Order.{by-test}
+use Rattle.zonemap.specs.declared.Leaf.{Leaf}
+use Rattle.zonemap.specs.Opening.{sizeOf, levelGood, faceGood, placeGood, leafGood, leavesFault}
+use Rattle.zonemap.specs.Leaves.{placeAt, nowhere}
+
+-- ---- what a good leaf is
+pub level-at-most : (d : ℕ) (l : Leaf) → levelGood d l ≡ true → l .level ≤ d
+unfolding levelGood
+level-at-most d l e =
+    let t = and-eq-true-iff (leb (l .level) d && leb (l .class) 4) _ .0 e in
+    leb-true (l .level) d (and-eq-true-iff (leb (l .level) d) (leb (l .class) 4) .0 (t .0) .0)
+
+module _ (named : ℕ → Bool) (d p : ℕ) (l : Leaf) where
+  leaf-parts : leafGood named d p l ≡ true → (levelGood d l ≡ true) × (placeGood d p l ≡ true)
+  unfolding leafGood
+  leaf-parts e =
+      let t = and-eq-true-iff (levelGood d l && faceGood named l) (placeGood d p l) .0 e in
+      (and-eq-true-iff (levelGood d l) (faceGood named l) .0 (t .0) .0, t .1)
+
+  pub good-level : leafGood named d p l ≡ true → l .level ≤ d
+  good-level e = level-at-most d l (leaf-parts e .0)
+
+  pub good-place : leafGood named d p l ≡ true → (p % sizeOf d l ≡ 0) × (p + sizeOf d l ≤ 8 ^ d)
+  unfolding placeGood
+  good-place e =
+      let t = and-eq-true-iff (eqb (p % sizeOf d l) 0) (leb (p + sizeOf d l) (8 ^ d)) .0 (leaf-parts e .1) in
+      (eqb-true (p % sizeOf d l) 0 (t .0), leb-true (p + sizeOf d l) (8 ^ d) (t .1))
+
+-- ---- runs
+-- the leaves run from place p to place e, and each is what `Each` says of it at its own place
+unfoldable pub Run : (ℕ → Leaf → Type 0) → ℕ → ℕ → List Leaf → ℕ → Type 0
+Run Each d p [] e = p ≡ e
+Run Each d p (l ∷ ls) e = Each p l × Run Each d (p + sizeOf d l) ls e
+
+module _ (Each : ℕ → Leaf → Type 0) (d : ℕ) where
+  pub run-append : (p m e : ℕ) (a b : List Leaf) → Run Each d p a m → Run Each d m b e → Run Each d p (a ++ b) e
+  unfolding Run
+  run-append p m e [] b r s = rw r s
+  run-append p m e (l ∷ a) b r s = (r .0, run-append (p + sizeOf d l) m e a b (r .1) s)
+
+  pub run-map : (To : ℕ → Leaf → Type 0) → ((p : ℕ) (l : Leaf) → Each p l → To p l) → (p e : ℕ) (ls : List Leaf) → Run Each d p ls e → Run To d p ls e
+  unfolding Run
+  run-map To t p e [] r = r
+  run-map To t p e (l ∷ ls) r = (t p l (r .0), run-map To t (p + sizeOf d l) e ls (r .1))
+
+  -- leaf i of a run is what `Each` says at its own place
+  pub run-at : (p e i : ℕ) (ls : List Leaf) → Run Each d p ls e → i < length ls → Each (p + placeAt d i ls) (getD ls i nowhere)
+  unfolding Run placeAt
+  run-at p e i [] r h = absurd (omega arith)
+  run-at p e zero (l ∷ ls) r h = let z : p + 0 ≡ p = omega arith in rw z (r .0)
+  run-at p e (suc i) (l ∷ ls) r h =
+      let z : p + (sizeOf d l + placeAt d i ls) ≡ p + sizeOf d l + placeAt d i ls = omega arith in
+      rw z (run-at (p + sizeOf d l) e i ls (r .1) (omega arith))
+
+-- ---- opening is a run
+-- good at its place
+abbrev pub Fine : (ℕ → Bool) → ℕ → ℕ → Leaf → Type 0
+Fine named d p l = leafGood named d p l ≡ true
+
+-- one fault is not none
+pub one-fault : (at : ℕ) → _≡_ {A = List ℕ} (at ∷ []) [] → ⊥
+one-fault at e = let z : _≡_ {A = ℕ} 0 1 = cc in omega arith
+
+module _ (named : ℕ → Bool) (d : ℕ) where
+  pub opens-run : (p at : ℕ) (ls : List Leaf) → leavesFault named d p at ls ≡ [] → Run (Fine named d) d p ls (8 ^ d)
+  unfolding Run leavesFault
+  opens-run p at [] e = by-test (eqb p (8 ^ d)) (λ t. eqb-true p (8 ^ d) t) (λ t. absurd (one-fault at (rw t at e)))
+  opens-run p at (l ∷ ls) e =
+      by-test (leafGood named d p l) (λ t. (t, opens-run (p + sizeOf d l) (at + 3) ls (rw t at e))) (λ t. absurd (one-fault at (rw t at e)))
+
+  pub run-opens : (p at : ℕ) (ls : List Leaf) → Run (Fine named d) d p ls (8 ^ d) → leavesFault named d p at ls ≡ []
+  unfolding Run leavesFault
+  run-opens p at [] r = rw (eq-eqb p (8 ^ d) r)
+  run-opens p at (l ∷ ls) r = rw (r .0) (run-opens (p + sizeOf d l) (at + 3) ls (r .1))

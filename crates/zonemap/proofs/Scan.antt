@@ -1,0 +1,102 @@
+-- The scan over a map's leaves: the needs of `find`, each as it stands. Assumes nothing.
+use mathlib.Core.Path.{_≡_, refl, _∙_}
+use mathlib.Core.Bool.{Bool, cond}
+use mathlib.Core.List.{List, [], _∷_}
+use Prim.Native.Nat.{ℕ, suc, _+_, _-_, _*_, _/_, _%_, _^_, _≤_, _<_}
+use native.Mathlib.Omega.{arith}
+use borrow.Author.Tests.{eq-eqb, ne-eqb, lt-leb, le-leb, leb-false, ltb-true, ltb-false}
+use lib.Dec.{leb, ltb}
+use lib.ListN.{length}
+use Rattle.integers.specs.First.{onFirst}
+use Rattle.integers.proofs.Order.{by-test}
+use Rattle.zonemap.specs.declared.Leaf.{Leaf}
+use Rattle.zonemap.specs.declared.Opened.{Opened}
+use Rattle.zonemap.specs.declared.Opened.the-variants.{Good, Bad}
+use Rattle.zonemap.specs.Opening.{leafIn, leavesIn, leavesFrom, leavesOf, sizeOf, leavesFault, leafAt}
+use Rattle.zonemap.proofs.Powers.{power-below}
+use Rattle.zonemap.proofs.Tests.{Sized, sized-good, sized-bad, sized-room}
+
+-- ---- the leaves that are left
+module _ (s : List ℕ) (at : ℕ) where
+  more : at < length s → at % 3 ≡ 1 → length s % 3 ≡ 1 → leavesFrom s at ≡ leafIn s at ∷ leavesFrom s (at + 3)
+  unfolding leavesIn
+  more h a b = let e : (length s - at) / 3 ≡ suc ((length s - (at + 3)) / 3) = omega arith in rw e
+
+  no-more : length s ≤ at → leavesFrom s at ≡ []
+  unfolding leavesIn
+  no-more h = let e : (length s - at) / 3 ≡ 0 = omega arith in rw e
+
+-- ---- the leaf that holds place m
+-- its offset, where the leaves from `at` on are left: one of them, unless m was passed
+abbrev offsetFrom : ℕ → ℕ → ℕ → ℕ → ℕ → List Leaf → ℕ
+offsetFrom d m place at found ls = cond (leb place m) (at + 3 * leafAt d m place ls) found
+
+module _ (d m place at found : ℕ) (l : Leaf) (ls : List Leaf) where
+  -- past one leaf more it is the same
+  offset-on : offsetFrom d m (place + sizeOf d l) (at + 3) (cond (leb place m) at found) ls ≡ offsetFrom d m place at found (l ∷ ls)
+  unfolding leafAt
+  offset-on =
+      by-test (leb place m)
+      (λ t. by-test (ltb m (place + sizeOf d l))
+      (λ u. rw (t, u, lt-leb (place + sizeOf d l) m (ltb-true m (place + sizeOf d l) u)) (omega arith))
+      (λ u. rw (t, u, le-leb (place + sizeOf d l) m (ltb-false m (place + sizeOf d l) u)) (omega arith)))
+      (λ t. rw (t, lt-leb (place + sizeOf d l) m (omega (arith, leb-false place m t))))
+
+-- ---- the invariant: what is left tells what the whole does
+pub record Scan (named : ℕ → Bool) (s : List ℕ) (d m place at found : ℕ) : Type 0 where
+  pub reach : at ≤ length s
+  pub beat : at % 3 ≡ 1
+  pub whole : length s % 3 ≡ 1
+  pub room : place ≤ 8 ^ d
+  pub small : 8 ^ d ≤ 2 ^ 30
+  pub same-fault : leavesFault named d place at (leavesFrom s at) ≡ leavesFault named d 0 19 (leavesOf s)
+  pub same-leaf : offsetFrom d m place at found (leavesFrom s at) ≡ 19 + 3 * leafAt d m 0 (leavesOf s)
+
+module _ (named : ℕ → Bool) (s : List ℕ) (d m : ℕ) where
+  -- what `find` answers
+  abbrev Answer : Opened
+  Answer = onFirst (leavesFault named d 0 19 (leavesOf s)) Bad (Good (19 + 3 * leafAt d m 0 (leavesOf s)))
+
+  pub scan-start : d ≤ 10 → 19 ≤ length s → length s % 3 ≡ 1 → Scan named s d m 0 19 19
+  scan-start h k e =
+      record { reach = k; beat = refl; whole = e; room = omega arith; small = power-below d h; same-fault = refl; same-leaf = rw (le-leb 0 m (omega arith)) }
+
+  module _ (place at found : ℕ) (i : Scan named s d m place at found) where
+    pub scan-leaf : at < length s → at + 3 ≤ length s
+    scan-leaf h = omega (arith, i .beat, i .whole)
+
+    -- l is what `leaf_at` answered, r what `good_size` did and f what `last_before` did
+    module _ (l : Leaf) (el : l ≡ leafIn s at) (r : ℕ) (er : r ≡ Sized named d place l) where
+      pub scan-room : place + r ≤ 2 ^ 30
+      scan-room = omega (arith, sized-room named d place l r er (i .room), i .small)
+
+      module _ (h : at < length s) where
+        pub scan-bad : r ≡ 0 → Bad at ≡ Answer
+        unfolding leavesFault
+        scan-bad z = rw (← i .same-fault, more s at h (i .beat) (i .whole), ← el, sized-bad named d place l r er z)
+
+        pub scan-on : (f : ℕ) → (r ≡ 0 → ⊥) → f ≡ cond (leb place m) at found → Scan named s d m (place + r) (at + 3) f
+        unfolding leavesFault
+        scan-on f n ef =
+            let o = sized-good named d place l r er n in
+            let left : leavesFrom s at ≡ l ∷ leavesFrom s (at + 3) = rw (more s at h (i .beat) (i .whole), el) in
+            record {
+              reach = scan-leaf h;
+              beat = omega (arith, i .beat);
+              whole = i .whole;
+              room = sized-room named d place l r er (i .room);
+              small = i .small;
+              same-fault = rw (o .1) (rw (left, o .0) at (i .same-fault));
+              same-leaf = rw (o .1, ef) (offset-on d m place at found l (leavesFrom s (at + 3)) ∙ rw left at (i .same-leaf));
+            }
+
+    module _ (h : length s ≤ at) where
+      pub scan-short : place < 8 ^ d → Bad at ≡ Answer
+      unfolding leavesFault
+      scan-short k = rw (← i .same-fault, no-more s at h, ne-eqb place (8 ^ d) (λ z. omega arith))
+
+      -- no leaf ends past 8^d, so that the sum is 8^d where it is not less
+      pub scan-good : m < 8 ^ d → 8 ^ d ≤ place → Good found ≡ Answer
+      unfolding leavesFault
+      scan-good k n =
+          rw (← i .same-fault, no-more s at h, eq-eqb place (8 ^ d) (omega (arith, i .room)), ← i .same-leaf, lt-leb place m (omega arith))

@@ -1,0 +1,67 @@
+-- Each whole point of the root of a map that opens is in one leaf of it, and in one only: the leaf that holds its place. Assumes nothing.
+use mathlib.Core.Path.{_≡_, sym, ap, _∙_}
+use mathlib.Core.Bool.{Bool, true}
+use mathlib.Core.List.{List, []}
+use Prim.Native.Nat.{ℕ, _+_, _-_, _*_, _/_, _%_, _^_, _≤_, _<_}
+use native.Mathlib.Nat.{div-add-mod'}
+use native.Mathlib.Omega.{arith}
+use lib.ListN.{length, getD}
+use Rattle.cube.specs.declared.Point.{Point}
+use Rattle.cube.specs.declared.Root.{Root}
+use Rattle.cube.specs.Limits.{inLimits}
+use Rattle.cube.specs.Cubes.{rootCube, cubeAt}
+use Rattle.cube.specs.Points.{holdsPoint, placeOf}
+use Rattle.cube.proofs.Places.{place-below, placed-holds, holds-placed}
+use Rattle.zonemap.specs.declared.Leaf.{Leaf}
+use Rattle.zonemap.specs.Opening.{sizeOf, leafAt, leavesFault}
+use Rattle.zonemap.specs.Leaves.{placeAt, nowhere, Holds}
+use Rattle.zonemap.proofs.Runs.{Run, Fine, run-at, opens-run, good-level, good-place}
+use Rattle.zonemap.proofs.Found.{leaf-holds, holds-one}
+
+module _ (named : ℕ → Bool) (r : Root) (ls : List Leaf) (within : inLimits r ≡ true) (run : Run (Fine named (r .d)) (r .d) 0 ls (8 ^ r .d)) where
+  abbrev d : ℕ
+  d = r .d
+
+  -- leaf i, and whether its cube holds a point
+  abbrev leaf : ℕ → Leaf
+  leaf i = getD ls i nowhere
+
+  abbrev pub InLeaf : Point → ℕ → Type 0
+  InLeaf p i = holdsPoint (cubeAt r (placeAt d i ls) (leaf i .level)) p ≡ true
+
+  module _ (i : ℕ) (h : i < length ls) where
+    fine : Fine named d (placeAt d i ls) (leaf i)
+    fine = let z : 0 + placeAt d i ls ≡ placeAt d i ls = omega arith in rw z at (run-at (Fine named d) d 0 (8 ^ d) i ls run h)
+
+    levels : leaf i .level + (d - leaf i .level) ≡ d
+    levels = omega (arith, good-level named d (placeAt d i ls) (leaf i) fine)
+
+    -- its place is a multiple of its size
+    times : placeAt d i ls / sizeOf d (leaf i) * sizeOf d (leaf i) ≡ placeAt d i ls
+    times = omega (arith, div-add-mod' (placeAt d i ls) (sizeOf d (leaf i)), good-place named d (placeAt d i ls) (leaf i) fine .0)
+
+  module _ (p : Point) (inside : holdsPoint (rootCube r) p ≡ true) where
+    -- the leaf that holds the point's place
+    abbrev pub one : ℕ
+    one = leafAt d (placeOf r p) 0 ls
+
+    held : Holds d (placeOf r p) 0 one ls
+    held = leaf-holds (Fine named d) d (placeOf r p) 0 (8 ^ d) ls run (omega arith) (place-below r p)
+
+    -- a point in the root always finds its leaf
+    pub in-one : (one < length ls) × InLeaf p one
+    in-one =
+        let t = times one (held .among) in (
+          held .among,
+          rw t at
+              (placed-holds r p within inside (d - leaf one .level) (leaf one .level) (placeAt d one ls / sizeOf d (leaf one)) (levels one (held .among))
+              (omega (arith, t, held .from)) (omega (arith, t, held .till))),
+        )
+
+    -- and no other leaf has it
+    pub only-one : (i : ℕ) → i < length ls → InLeaf p i → i ≡ one
+    only-one i h e =
+        let t = times i h in
+        let f = fine i h in
+        let b = holds-placed r p within inside (d - leaf i .level) (leaf i .level) (placeAt d i ls / sizeOf d (leaf i)) (levels i h) (omega (arith, t, good-place named d (placeAt d i ls) (leaf i) f .1)) (rw t e) in
+        holds-one d (placeOf r p) 0 i ls (record { among = h; from = omega (arith, t, b .0); till = omega (arith, t, b .1) })

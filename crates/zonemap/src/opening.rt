@@ -1,0 +1,172 @@
+// Opening a map: the tests of its bytes, and the leaf that holds a place, in one scan.
+
+ghost use mathlib.Core.Path.{_≡_};
+ghost use mathlib.Core.Bool.{cond, _&&_};
+ghost use Prim.Native.Nat.{_+_, _-_, _*_, _%_, _≤_, _<_, _^_};
+ghost use lib.Dec.{eqb, leb};
+ghost use lib.ListN.{length, getD};
+ghost use Rattle.integers.specs.First.{onFirst};
+ghost use Rattle.zonemap.specs.declared.Header.the-variants.{Good as GoodHeader, Bad as BadHeader};
+ghost use Rattle.zonemap.specs.declared.Opened.the-variants.{Good, Bad};
+ghost use Rattle.zonemap.specs.Opening.{lengthGood, rootOf, leafIn, leavesOf, levelGood, faceGood, leafGood, sizeOf, leavesFault, headerFault, leafAt};
+use crate::Header;
+use crate::Leaf;
+use crate::Opened;
+use cube::Root;
+
+// Whether the length agrees and is 15 + 3n.
+fn length_is_good(map: &[u8]) -> bool
+    ensures { λ r. ⌜ r ≡ lengthGood (now (map .entry)) ⌝ }
+{
+    if map.len() < 19 {
+        return false;
+    }
+    let follow = bigendian::u32_at(map, 0) as usize;
+    if follow + 4 == map.len() {
+        return follow % 3 == 0;
+    }
+    false
+}
+
+// The root by a map's bytes 5 to 18.
+fn root(map: &[u8]) -> Root
+    requires { ⌜ 19 ≤ length (now map) ⌝ }
+    ensures { λ r. ⌜ r ≡ rootOf (now (map .entry)) ⌝ }
+{
+    Root {
+        x: bigendian::i32_at(map, 5),
+        y: bigendian::i32_at(map, 9),
+        z: bigendian::i32_at(map, 13),
+        k: map[17],
+        d: map[18],
+    }
+}
+
+// The root of a map, or the fault in the bytes before its leaves.
+pub fn read_header(map: &[u8]) -> Header
+    ensures { λ r. ⌜ r ≡ onFirst (headerFault (now (map .entry))) BadHeader (GoodHeader (rootOf (now (map .entry)))) ⌝ }
+{
+    if !length_is_good(map) {
+        return Header::Bad(0);
+    }
+    if map[4] != crate::VERSION {
+        return Header::Bad(4);
+    }
+    let r = root(map);
+    if r.is_within() {
+        return Header::Good(r);
+    }
+    Header::Bad(5)
+}
+
+// The leaf whose three bytes stand at `at`.
+pub fn leaf_at(map: &[u8], at: usize) -> Leaf
+    requires { ⌜ at + 3 ≤ length (now map) ⌝ }
+    ensures { λ r. ⌜ r ≡ leafIn (now (map .entry)) at ⌝ }
+{
+    Leaf {
+        level: map[at],
+        class: map[at + 1],
+        face: map[at + 2],
+    }
+}
+
+// 8 to the power n.
+fn power(n: u8) -> u32
+    requires { ⌜ n ≤ 10 ⌝ }
+    ensures { λ r. ⌜ r ≡ 8 ^ n ⌝ }
+{
+    1u32 << (3 * n)
+}
+
+// Whether a place is a multiple of 8 to the power n: shifting it down and up again leaves it as it was.
+fn is_multiple(place: u32, n: u8) -> bool
+    requires { ⌜ n ≤ 10 ⌝ }
+    ensures { λ r. ⌜ r ≡ eqb (place % 8 ^ n) 0 ⌝ }
+{
+    let t = 3 * n;
+    place >> t << t == place
+}
+
+// Level at most d, class at most 4, gray only at level d.
+fn level_is_good(d: u8, leaf: Leaf) -> bool
+    ensures { λ r. ⌜ r ≡ levelGood d leaf ⌝ }
+{
+    if leaf.class < 4 {
+        return leaf.level <= d;
+    }
+    leaf.class == 4 && leaf.level == d
+}
+
+// Face 0 unless class 2 or 3, and then one that is marked.
+fn face_is_good(faces: &[u8], leaf: Leaf) -> bool
+    requires { ⌜ length (now faces) ≡ 256 ⌝ }
+    ensures { λ r. ⌜ r ≡ faceGood (λ f. eqb (getD (now (faces .entry)) f 0) 1) leaf ⌝ }
+{
+    if leaf.class == 2 || leaf.class == 3 {
+        return faces[leaf.face as usize] == 1;
+    }
+    leaf.face == 0
+}
+
+// The size of a cube that n levels are below, where it is in place, else 0.
+fn size_in_place(d: u8, place: u32, n: u8) -> u32
+    requires { ⌜ d ≤ 10 ⌝ ∗ ⌜ place ≤ 2 ^ 30 ⌝ ∗ ⌜ n ≤ 10 ⌝ }
+    ensures { λ r. ⌜ r ≡ cond (eqb (place % 8 ^ n) 0 && leb (place + 8 ^ n) (8 ^ d)) (8 ^ n) 0 ⌝ }
+{
+    if is_multiple(place, n) {
+        let size = power(n);
+        if place + size <= power(d) {
+            return size;
+        }
+        return 0;
+    }
+    0
+}
+
+// The size of a leaf that is good at a place, else 0; no size is 0.
+fn good_size(faces: &[u8], d: u8, place: u32, leaf: Leaf) -> u32
+    requires { ⌜ d ≤ 10 ⌝ ∗ ⌜ place ≤ 2 ^ 30 ⌝ ∗ ⌜ length (now faces) ≡ 256 ⌝ }
+    ensures { λ r. ⌜ r ≡ cond (leafGood (λ f. eqb (getD (now (faces .entry)) f 0) 1) d place leaf) (sizeOf d leaf) 0 ⌝ }
+{
+    if level_is_good(d, leaf) {
+        if face_is_good(faces, leaf) {
+            return size_in_place(d, place, d - leaf.level);
+        }
+        return 0;
+    }
+    0
+}
+
+// The last leaf whose place is not past m is the one that holds m.
+fn last_before(place: u32, m: u32, at: usize, found: usize) -> usize
+    ensures { λ r. ⌜ r ≡ cond (leb place m) at found ⌝ }
+{
+    if place <= m {
+        return at;
+    }
+    found
+}
+
+// The offset of the leaf that holds place m, or that of the first fault of the leaves. A terminal leaf may name the faces that are marked with 1.
+pub fn find(map: &[u8], faces: &[u8], d: u8, m: u32) -> Opened
+    requires { ⌜ d ≤ 10 ⌝ ∗ ⌜ 19 ≤ length (now map) ⌝ ∗ ⌜ length (now map) % 3 ≡ 1 ⌝ ∗ ⌜ length (now faces) ≡ 256 ⌝ ∗ ⌜ m < 8 ^ d ⌝ }
+    ensures { λ r. ⌜ r ≡ onFirst (leavesFault (λ f. eqb (getD (now (faces .entry)) f 0) 1) d 0 19 (leavesOf (now (map .entry)))) Bad (Good (19 + 3 * leafAt d m 0 (leavesOf (now (map .entry))))) ⌝ }
+{
+    let mut place: u32 = 0;
+    let mut at: usize = 19;
+    let mut found: usize = 19;
+    while at < map.len() {
+        let size = good_size(faces, d, place, leaf_at(map, at));
+        if size == 0 {
+            return Opened::Bad(at);
+        }
+        found = last_before(place, m, at, found);
+        place += size;
+        at += 3;
+    }
+    if place < power(d) {
+        return Opened::Bad(at);
+    }
+    Opened::Good(found)
+}

@@ -21,6 +21,7 @@ use Rattle.sheet.specs.Operands.{firstUnmet, lastSort}
 use Rattle.sheet.specs.Check.{sortedOf, checkOf}
 use Rattle.sheet.specs.Along.{along, onward}
 use Rattle.sheet.proofs.Along.{length-along, entry}
+use Rattle.sheet.proofs.StepRoom.{stepSheet, stepRecords, step-records, step-check}
 use Rattle.cube.specs.declared.Root.{Root}
 use Rattle.cube.specs.declared.Cube.{Cube}
 use Rattle.cube.specs.Limits.{axisFits, sizesFit, inLimits}
@@ -31,34 +32,15 @@ use Rattle.colour.specs.States.{faceState, bothOf, stateOf}
 use Rattle.colour.specs.Entries.{Entry, blank, entryOf, entries, beforePast, pastOf}
 use Rattle.zonemap.specs.declared.Leaf.{Leaf}
 use Rattle.zonemap.specs.Map.{leafBytes, leavesBytes, cornerBytes, headerOf, mapOf}
+use Rattle.zonemap.proofs.Rows.{stepRoot, stepMap}
 use Rattle.build.specs.declared.Reply.the-variants.{Done, Short}
 use Rattle.build.specs.Tree.{upto, visit}
 use Rattle.build.specs.Solid.{solidState, isGray, leafOf, leavesOf, pastsOf}
 use Rattle.build.proofs.Cubes.{leaves-flat}
 use Rattle.build.specs.Build.{outcome, builtMap, storedOf, solidOf, buildOf}
 
--- sheet S: the solid is x at most 2 and y at most 2
-pub stepSheet : List ℕ
-stepSheet = 0 ∷ 29 ∷ 1 ∷ 1 ∷ 2 ∷ 1 ∷ 3 ∷ 5 ∷ 1 ∷ 0 ∷ 0 ∷ 0 ∷ 2 ∷ 3 ∷ 6 ∷ 0 ∷ 2 ∷ 3 ∷ 6 ∷ 1 ∷ 2 ∷ 2 ∷ 16 ∷ 3 ∷ 2 ∷ 16 ∷ 4 ∷ 3 ∷ 17 ∷ 5 ∷ 6 ∷ []
-
--- root 0 0 0, k 2, at depth d
-abbrev pub stepRoot : ℕ → Root
-stepRoot d = record { x = pos 0; y = pos 0; z = pos 0; k = 2; d = d }
-
--- its records
-abbrev stepRecords : List Record
-stepRecords = X ∷ Y ∷ Constant (pos 2) ∷ Difference 0 2 ∷ Difference 1 2 ∷ Face 3 ∷ Face 4 ∷ Both 5 6 ∷ []
-
-pub step-records : recordsOf stepSheet ≡ stepRecords
-unfolding stepSheet reading readFrom readAt rowAt rowOf signed32 unsignedAt
-step-records = refl
-
 abbrev leaf : ℕ → ℕ → ℕ → Leaf
 leaf level class face = record { level = level; class = class; face = face }
-
-step-check : checkOf stepSheet ≡ Good 8
-unfolding stepSheet checkOf sortedOf firstUnmet lastSort reading readFrom readAt rowAt rowOf unsignedAt
-step-check = refl
 
 -- S at d 0: one leaf, level 0, gray
 pub depth-0 : leavesOf stepRecords 0 (rootCube (stepRoot 0)) ≡ leaf 0 4 0 ∷ []
@@ -78,9 +60,6 @@ unfolding leavesOf visit upto isGray leafOf solidState along onward entryOf boun
 depth-2 = refl
 
 -- the map of S at d 1, byte by byte
-abbrev pub stepMap : List ℕ
-stepMap = 0 ∷ 0 ∷ 0 ∷ 39 ∷ 1 ∷ 0 ∷ 0 ∷ 0 ∷ 0 ∷ 0 ∷ 0 ∷ 0 ∷ 0 ∷ 0 ∷ 0 ∷ 0 ∷ 0 ∷ 2 ∷ 1 ∷ 1 ∷ 1 ∷ 0 ∷ 1 ∷ 2 ∷ 5 ∷ 1 ∷ 2 ∷ 6 ∷ 1 ∷ 4 ∷ 0 ∷ 1 ∷ 1 ∷ 0 ∷ 1 ∷ 2 ∷ 5 ∷ 1 ∷ 2 ∷ 6 ∷ 1 ∷ 4 ∷ 0 ∷ []
-
 pub map-1 : builtMap stepRecords (stepRoot 1) ≡ stepMap
 unfolding builtMap mapOf headerOf cornerBytes bytesOf unsigned32 leavesBytes leafBytes
 map-1 = ap (mapOf (stepRoot 1)) depth-1

@@ -7,10 +7,12 @@ use lib.ListN.{getD, replicate}
 use Rattle.bigendian.specs.Numbers.{bytesOf, unsigned32}
 use Rattle.zonemap.specs.declared.Leaf.{Leaf}
 use Rattle.zonemap.specs.Map.{leafBytes, leavesBytes, cornerBytes, headerOf, mapOf}
+use Rattle.sheet.proofs.StepRoom.{stepSheet}
+use Rattle.zonemap.proofs.Rows.{stepRoot, stepMap}
 use Rattle.build.specs.declared.Reply.{Reply}
 use Rattle.build.specs.declared.Reply.the-variants.{Done, Short}
 use Rattle.build.specs.Build.{Outcome, outcome, buildOf, codeOf, numberOf}
-use Rattle.build.proofs.Rows.{stepSheet, stepRoot, stepMap, fits-1, short-1}
+use Rattle.build.proofs.Rows.{fits-1, short-1}
 
 -- a buffer of 43 bytes holds the map, one of 42 does not
 abbrev room : List ℕ

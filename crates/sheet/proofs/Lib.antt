@@ -5,3 +5,4 @@ pub mod Sorting
 pub mod Replies
 pub mod Along
 pub mod Good
+pub mod StepRoom

@@ -5,5 +5,5 @@ pub mod Tests
 pub mod Scan
 pub mod Found
 pub mod Trip
-mod Rows
+pub mod Rows
 pub mod Tiling

@@ -1,4 +1,4 @@
--- Document 01's map of the step room: root 0 0 0, k 2, d 1. Assumes nothing.
+-- Document 01's map of the step room, written and read. Assumes nothing.
 use mathlib.Core.Path.{_≡_, refl}
 use mathlib.Core.Bool.{Bool, _||_}
 use mathlib.Core.List.{List, [], _∷_, _++_}
@@ -12,8 +12,9 @@ use Rattle.zonemap.specs.declared.Leaf.{Leaf}
 use Rattle.zonemap.specs.Map.{leafBytes, leavesBytes, cornerBytes, headerOf, mapOf}
 use Rattle.zonemap.specs.Opening.{lengthGood, rootOf, leafIn, leavesIn, levelGood, faceGood, placeGood, leafGood, leavesFault, headerFault, faultOf, leafAt, offsetAt}
 
-abbrev root : Root
-root = record { x = pos 0; y = pos 0; z = pos 0; k = 2; d = 1 }
+-- root 0 0 0, k 2, at depth d
+abbrev pub stepRoot : ℕ → Root
+stepRoot d = record { x = pos 0; y = pos 0; z = pos 0; k = 2; d = d }
 
 -- a leaf of level 1
 abbrev leaf : ℕ → ℕ → Leaf
@@ -29,10 +30,11 @@ bytes = 1 ∷ 1 ∷ 0 ∷ 1 ∷ 2 ∷ 5 ∷ 1 ∷ 2 ∷ 6 ∷ 1 ∷ 4 ∷ 0 ∷ 
 abbrev zeros : List ℕ
 zeros = 0 ∷ 0 ∷ 0 ∷ 0 ∷ 0 ∷ 0 ∷ 0 ∷ 0 ∷ 0 ∷ 0 ∷ 0 ∷ 0 ∷ []
 
-abbrev map : List ℕ
-map = 0 ∷ 0 ∷ 0 ∷ 39 ∷ 1 ∷ [] ++ zeros ++ 2 ∷ 1 ∷ [] ++ bytes ++ bytes
+-- the map at depth 1
+abbrev pub stepMap : List ℕ
+stepMap = 0 ∷ 0 ∷ 0 ∷ 39 ∷ 1 ∷ [] ++ zeros ++ 2 ∷ 1 ∷ [] ++ bytes ++ bytes
 
-step-room : mapOf root (four ++ four) ≡ map
+step-room : mapOf (stepRoot 1) (four ++ four) ≡ stepMap
 unfolding mapOf headerOf cornerBytes leavesBytes leafBytes bytesOf unsigned32
 step-room = refl
 
@@ -44,26 +46,26 @@ both f = eqb f 5 || eqb f 6
 abbrev six : ℕ → Bool
 six f = eqb f 6
 
-opens : faultOf both map ≡ []
+opens : faultOf both stepMap ≡ []
 unfolding faultOf headerFault lengthGood rootOf leavesFault leafGood levelGood faceGood placeGood leavesIn leafIn unsignedAt signed32 inLimits sizesFit axisFits
 opens = refl
 
 -- the second leaf names face 5
-not-named : faultOf six map ≡ 22 ∷ []
+not-named : faultOf six stepMap ≡ 22 ∷ []
 unfolding faultOf headerFault lengthGood rootOf leavesFault leafGood levelGood faceGood placeGood leavesIn leafIn unsignedAt signed32 inLimits sizesFit axisFits
 not-named = refl
 
 -- four leaves stop short, at the map's length
-short : faultOf both (mapOf root four) ≡ 31 ∷ []
+short : faultOf both (mapOf (stepRoot 1) four) ≡ 31 ∷ []
 unfolding faultOf headerFault lengthGood rootOf leavesFault leafGood levelGood faceGood placeGood leavesIn leafIn unsignedAt signed32 inLimits sizesFit axisFits mapOf headerOf cornerBytes leavesBytes leafBytes bytesOf unsigned32
 short = refl
 
 -- the ninth of twelve leaves ends past the root
-past : faultOf both (mapOf root (four ++ four ++ four)) ≡ 43 ∷ []
+past : faultOf both (mapOf (stepRoot 1) (four ++ four ++ four)) ≡ 43 ∷ []
 unfolding faultOf headerFault lengthGood rootOf leavesFault leafGood levelGood faceGood placeGood leavesIn leafIn unsignedAt signed32 inLimits sizesFit axisFits mapOf headerOf cornerBytes leavesBytes leafBytes bytesOf unsigned32
 past = refl
 
 -- place 1, where the point 2 0 0 is, is held by the second leaf
-second : offsetAt map 1 ≡ 22
+second : offsetAt stepMap 1 ≡ 22
 unfolding rootOf leafAt leavesIn leafIn
 second = refl

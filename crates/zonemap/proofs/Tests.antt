@@ -6,7 +6,7 @@ use mathlib.Core.Logic.{_⊎_, inl, inr}
 use Prim.Native.Nat.{ℕ, _+_, _-_, _%_, _^_, _≤_, _<_}
 use native.Mathlib.Nat.{zero-lt-suc, one-le-pow}
 use native.Mathlib.Omega.{arith}
-use borrow.Author.Tests.{eq-eqb, ne-eqb, lt-leb, le-leb, leb-true, eqb-true, not-true, not-false}
+use borrow.Author.Tests.{eq-eqb, ne-eqb, eqb-false, lt-leb, le-leb, leb-true, eqb-true, not-true, not-false}
 use lib.Dec.{eqb, leb}
 use lib.IntN.{ℤ}
 use lib.ListN.{length, getD}
@@ -98,35 +98,40 @@ module _ (d : ℕ) (l : Leaf) where
       rw (le-leb (l .class) 4 (omega arith), eq-eqb (l .class) 4 h, and-true)
       (by-test (eqb (l .level) d) (λ t. rw (t, le-leb (l .level) d (omega (arith, eqb-true (l .level) d t)))) (λ t. rw (t, and-false)))
 
-  pub level-none : 4 ≤ l .class → (l .class ≡ 4 → ⊥) → eqb (l .class) 4 ≡ levelGood d l
+  pub level-none : 4 ≤ l .class → (l .class ≡ 4 → ⊥) → false ≡ levelGood d l
   unfolding levelGood
   level-none h n = rw (ne-eqb (l .class) 4 n, lt-leb (l .class) 4 (omega (arith, n)), and-false)
 
 -- face_is_good
 module _ (named : ℕ → Bool) (l : Leaf) where
-  pub face-named : (eqb (l .class) 2 ≡ true) ⊎ (eqb (l .class) 3 ≡ true) → named (l .face) ≡ faceGood named l
+  -- from 2 to below 4 is 2 or 3
+  pub face-named : 2 ≤ l .class → l .class < 4 → named (l .face) ≡ faceGood named l
   unfolding faceGood
-  face-named (inl t) = rw t
-  face-named (inr t) = by-test (eqb (l .class) 2) (λ u. rw u) (λ u. rw (u, t))
+  face-named h k =
+      by-test (eqb (l .class) 2) (λ u. rw u)
+      (λ u. rw (u, eq-eqb (l .class) 3 (omega (arith, eqb-false (l .class) 2 u))))
 
-  pub face-none : (l .class ≡ 2 → ⊥) → eqb (l .class) 3 ≡ false → eqb (l .face) 0 ≡ faceGood named l
+  pub face-none : (l .class < 2) ⊎ (4 ≤ l .class) → eqb (l .face) 0 ≡ faceGood named l
   unfolding faceGood
-  face-none n t = rw (ne-eqb (l .class) 2 n, t)
+  face-none (inl h) = rw (ne-eqb (l .class) 2 (λ e. omega arith), ne-eqb (l .class) 3 (λ e. omega arith))
+  face-none (inr h) = rw (ne-eqb (l .class) 2 (λ e. omega arith), ne-eqb (l .class) 3 (λ e. omega arith))
 
--- size_in_place: a is what `is_multiple` answered
-module _ (d p n : ℕ) where
+pub size-some : (n s : ℕ) → s ≡ 8 ^ n → 0 < s
+size-some n s e = omega (arith, one-le-pow n 8 (zero-lt-suc 7))
+
+-- size_in_place: s is what `power` answered of n
+module _ (d p n s : ℕ) (e : s ≡ 8 ^ n) where
   abbrev Placed : ℕ
   Placed = cond (eqb (p % 8 ^ n) 0 && leb (p + 8 ^ n) (8 ^ d)) (8 ^ n) 0
 
-  module _ (a : Bool) (is : a ≡ eqb (p % 8 ^ n) 0) where
-    pub place-yes : a ≡ true → p + 8 ^ n ≤ 8 ^ d → 8 ^ n ≡ Placed
-    place-yes t h = rw (sym is ∙ t, le-leb (p + 8 ^ n) (8 ^ d) h)
+  pub place-yes : p % s ≡ 0 → p + s ≤ 8 ^ d → s ≡ Placed
+  place-yes t h = e ∙ rw (eq-eqb (p % 8 ^ n) 0 (rw e at t), le-leb (p + 8 ^ n) (8 ^ d) (omega arith))
 
-    pub place-over : a ≡ true → 8 ^ d < p + 8 ^ n → 0 ≡ Placed
-    place-over t h = rw (sym is ∙ t, lt-leb (p + 8 ^ n) (8 ^ d) h)
+  pub place-over : p % s ≡ 0 → 8 ^ d < p + s → 0 ≡ Placed
+  place-over t h = rw (eq-eqb (p % 8 ^ n) 0 (rw e at t), lt-leb (p + 8 ^ n) (8 ^ d) (omega arith))
 
-    pub place-off : a ≡ false → 0 ≡ Placed
-    place-off t = rw (sym is ∙ t)
+  pub place-off : (p % s ≡ 0 → ⊥) → 0 ≡ Placed
+  place-off t = rw (ne-eqb (p % 8 ^ n) 0 (rw e at t))
 
 pub power-small : (n w : ℕ) → w ≡ 8 ^ n → n ≤ 10 → w ≤ 2 ^ 30
 power-small n w e h = omega (arith, power-below n h)
@@ -150,7 +155,7 @@ module _ (named : ℕ → Bool) (d p : ℕ) (l : Leaf) where
       unfolding leafGood
       size-face t = rw (sym ea ∙ ta, sym eb ∙ t)
 
-      pub size-placed : (r : ℕ) → b ≡ true → r ≡ Placed d p (d - l .level) → r ≡ Sized
+      pub size-placed : (r : ℕ) → b ≡ true → r ≡ cond (eqb (p % sizeOf d l) 0 && leb (p + sizeOf d l) (8 ^ d)) (sizeOf d l) 0 → r ≡ Sized
       unfolding leafGood placeGood
       size-placed r t e = e ∙ rw (sym ea ∙ ta, sym eb ∙ t)
 

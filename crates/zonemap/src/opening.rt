@@ -79,15 +79,6 @@ fn power(n: u8) -> u32
     1u32 << (3 * n)
 }
 
-// Whether a place is a multiple of 8 to the power n: shifting it down and up again leaves it as it was.
-fn is_multiple(place: u32, n: u8) -> bool
-    requires { ⌜ n ≤ 10 ⌝ }
-    ensures { λ r. ⌜ r ≡ eqb (place % 8 ^ n) 0 ⌝ }
-{
-    let t = 3 * n;
-    place >> t << t == place
-}
-
 // Level at most d, class at most 4, gray only at level d.
 fn level_is_good(d: u8, leaf: Leaf) -> bool
     ensures { λ r. ⌜ r ≡ levelGood d leaf ⌝ }
@@ -95,7 +86,10 @@ fn level_is_good(d: u8, leaf: Leaf) -> bool
     if leaf.class < 4 {
         return leaf.level <= d;
     }
-    leaf.class == 4 && leaf.level == d
+    if leaf.class == 4 {
+        return leaf.level == d;
+    }
+    false
 }
 
 // Face 0 unless class 2 or 3, and then one that is marked.
@@ -103,10 +97,11 @@ fn face_is_good(faces: &[u8], leaf: Leaf) -> bool
     requires { ⌜ length (now faces) ≡ 256 ⌝ }
     ensures { λ r. ⌜ r ≡ faceGood (λ f. eqb (getD (now (faces .entry)) f 0) 1) leaf ⌝ }
 {
-    if leaf.class == 2 || leaf.class == 3 {
-        return faces[leaf.face as usize] == 1;
+    let class = leaf.class;
+    match class {
+        2 | 3 => faces[leaf.face as usize] == 1,
+        _ => leaf.face == 0,
     }
-    leaf.face == 0
 }
 
 // The size of a cube that n levels are below, where it is in place, else 0.
@@ -114,8 +109,8 @@ fn size_in_place(d: u8, place: u32, n: u8) -> u32
     requires { ⌜ d ≤ 10 ⌝ ∗ ⌜ place ≤ 2 ^ 30 ⌝ ∗ ⌜ n ≤ 10 ⌝ }
     ensures { λ r. ⌜ r ≡ cond (eqb (place % 8 ^ n) 0 && leb (place + 8 ^ n) (8 ^ d)) (8 ^ n) 0 ⌝ }
 {
-    if is_multiple(place, n) {
-        let size = power(n);
+    let size = power(n);
+    if place % size == 0 {
         if place + size <= power(d) {
             return size;
         }

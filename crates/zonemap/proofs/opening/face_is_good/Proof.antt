@@ -1,6 +1,5 @@
 -- `zonemap::opening::face_is_good` meets its contract: a face that is named, or none. Assumes nothing.
 use mathlib.Core.Logic.{⊎-elim, inl, inr}
-use borrow.Author.Tests.{eq-eqb}
 use Rattle.zonemap.proofs.Tests.{face-named, face-none}
 use borrow.Author.Needs.{needs}
 use Rattle.zonemap.proofs.opening.face_is_good.Statement.{statement}
@@ -13,11 +12,10 @@ shared-slice-read-result : tie.Need-shared-slice-read-result
 shared-slice-read-result c = search needs
 
 returns : tie.Need-returns
-returns c =
-    face-named _ _ (⊎-elim (λ t. inl (eq-eqb _ _ (t .taken))) (λ t. inr (t .2 .taken)) (c .before .before .if1 .came))
+returns c = face-named _ _ (c .before .before .before .if1 .left) (c .before .before .if2 .taken)
 
 returns-2 : tie.Need-returns-2
-returns-2 c = face-none _ _ (c .before .before .before .if1 .left) (c .before .if2 .left)
+returns-2 c = face-none _ _ (⊎-elim (λ t. inl (t .taken)) (λ t. inr (t .1 .left)) (c .before .if1 .came))
 
 pub face-is-good-spec : {M : Type 1} → statement M
 face-is-good-spec = tie.close (tie.spec cast-result shared-slice-read-result returns returns-2)

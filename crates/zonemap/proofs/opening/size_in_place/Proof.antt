@@ -1,43 +1,35 @@
 -- `zonemap::opening::size_in_place` meets its contract: a place that fits, one that ends past the root, one that is no multiple. Assumes nothing.
-use mathlib.Core.Path.{_∙_}
 use native.Mathlib.Omega.{arith}
-use Rattle.zonemap.proofs.Tests.{power-small, place-yes, place-over, place-off}
+use Rattle.zonemap.proofs.Tests.{power-small, size-some, place-yes, place-over, place-off}
 use borrow.Author.Needs.{needs}
 use Rattle.zonemap.proofs.opening.size_in_place.Statement.{statement}
 use Rattle.zonemap.proofs.opening.size_in_place.Tie as tie
 
-is-multiple-requires : tie.Need-is-multiple-requires
-is-multiple-requires c κs = search needs
-
 power-requires : tie.Need-power-requires
 power-requires c κs = search needs
 
+rem-if1 : tie.Need-rem-if1
+rem-if1 c = size-some _ _ (c .power .ensures)
+
 add-if2 : tie.Need-add-if2
-add-if2 c = omega (arith, power-small _ _ (c .power .ensures) (c .before .before .before .pre .1 .1))
+add-if2 c = omega (arith, power-small _ _ (c .before .power .ensures) (c .before .before .pre .1 .1))
 
 power-requires-2 : tie.Need-power-requires-2
 power-requires-2 c κs = search needs
 
 returns : tie.Need-returns
 returns c =
-    c .before .before .power .ensures ∙ place-yes (c .before .before .before .before .before .args .d) (c .before .before .before .before .before .args .place) (c .before .before .before .before .before .args .n) _ (c .before .before .before .before .is-multiple .ensures) (c .before .before .before .if1 .taken) (omega (arith, c .before .before .power .ensures, c .before .power2 .ensures, c .if2 .taken))
+    place-yes (c .before .before .before .before .args .d) (c .before .before .before .before .args .place) (c .before .before .before .before .args .n) _ (c .before .before .before .power .ensures) (c .before .before .if1 .taken) (omega (arith, c .before .power2 .ensures, c .if2 .taken))
 
 returns-2 : tie.Need-returns-2
 returns-2 c =
-    place-over (c .before .before .before .before .before .args .d) (c .before .before .before .before .before .args .place) (c .before .before .before .before .before .args .n) _ (c .before .before .before .before .is-multiple .ensures) (c .before .before .before .if1 .taken) (omega (arith, c .before .before .power .ensures, c .before .power2 .ensures, c .if2 .left))
+    place-over (c .before .before .before .before .args .d) (c .before .before .before .before .args .place) (c .before .before .before .before .args .n) _ (c .before .before .before .power .ensures) (c .before .before .if1 .taken) (omega (arith, c .before .power2 .ensures, c .if2 .left))
 
 returns-3 : tie.Need-returns-3
 returns-3 c =
-    place-off (c .before .before .args .d) (c .before .before .args .place) (c .before .before .args .n) _ (c .before .is-multiple .ensures) (c .if1 .left)
+    place-off (c .before .before .args .d) (c .before .before .args .place) (c .before .before .args .n) _ (c .before .power .ensures) (c .if1 .left)
 
 pub size-in-place-spec : {M : Type 1} → statement M
 size-in-place-spec =
     tie.close
-    (tie.spec
-    is-multiple-requires
-    power-requires
-    add-if2
-    power-requires-2
-    returns
-    returns-2
-    returns-3)
+    (tie.spec power-requires rem-if1 add-if2 power-requires-2 returns returns-2 returns-3)

@@ -1,0 +1,68 @@
+-- Document 01's worked rows of looking up in the step room's map at depth 1. Assumes nothing.
+use mathlib.Core.Path.{_≡_, refl}
+use mathlib.Core.Bool.{cond, not}
+use mathlib.Core.List.{List, []}
+use Prim.Native.Nat.{ℕ}
+use lib.IntN.{pos}
+use Rattle.bigendian.specs.Numbers.{unsignedAt, signed32}
+use Rattle.interval.specs.Rules.{difference}
+use Rattle.interval.specs.Limit.{isSmall, isWithin}
+use Rattle.sheet.specs.Records.{recordsOf}
+use Rattle.sheet.specs.Along.{along, onward}
+use Rattle.sheet.proofs.StepRoom.{stepSheet, stepRecords, step-records, step-check}
+use Rattle.kinds.specs.Faces.{hasFace}
+use Rattle.cube.specs.declared.Point.{Point}
+use Rattle.cube.specs.Limits.{axisFits, sizesFit, inLimits}
+use Rattle.cube.specs.Cubes.{rootCube}
+use Rattle.cube.specs.Points.{axisHolds, holdsPoint, pointCube, placeBy, placeOf}
+use Rattle.zonemap.specs.declared.Leaf.{Leaf}
+use Rattle.zonemap.specs.Opening.{lengthGood, rootOf, leafIn, leavesIn, levelGood, faceGood, placeGood, leafGood, leavesFault, headerFault, faultOf, leafAt, offsetAt}
+use Rattle.zonemap.proofs.Rows.{stepMap}
+use Rattle.colour.specs.Bounds.{across, boundsOf}
+use Rattle.colour.specs.States.{faceState, bothOf, stateOf}
+use Rattle.colour.specs.Entries.{entryOf, beforePast, pastOf}
+use Rattle.lookup.specs.declared.Answer.the-variants.{Outside, Inside, Undecided}
+use Rattle.lookup.specs.declared.Reply.{Reply}
+use Rattle.lookup.specs.declared.Reply.the-variants.{Done, NotInRoot}
+use Rattle.lookup.specs.Lookup.{faceHolds, answerOf, leafHolding, mapReply, lookupOf}
+
+-- a point with z 0
+abbrev at : ℕ → ℕ → Point
+at x y = record { x = pos x; y = pos y; z = pos 0 }
+
+-- the map opens with this sheet's faces
+opens : faultOf (hasFace stepRecords) stepMap ≡ []
+unfolding faultOf headerFault lengthGood rootOf leavesFault leafGood levelGood faceGood placeGood leavesIn leafIn unsignedAt signed32 inLimits sizesFit axisFits hasFace
+opens = refl
+
+-- no record passes the limit over its root
+none : pastOf stepRecords (rootCube (rootOf stepMap)) ≡ []
+unfolding pastOf beforePast along onward entryOf boundsOf across difference isWithin isSmall stateOf faceState bothOf rootCube rootOf unsignedAt signed32
+none = refl
+
+-- so a point is out of the root, or its leaf answers
+step-lookup : (p : Point) → lookupOf stepSheet stepMap p ≡ cond (not (holdsPoint (rootCube (rootOf stepMap)) p)) NotInRoot (Done (answerOf stepRecords (leafHolding stepMap p) p))
+unfolding lookupOf mapReply
+step-lookup p = rw (step-check, step-records, opens, none)
+
+-- the leaf that holds (2,0,0) is terminal, and names face 5
+pub by-face-5 : leafHolding stepMap (at 2 0) ≡ record { level = 1; class = 2; face = 5 }
+unfolding leafHolding rootOf leafIn leavesIn leafAt placeOf placeBy unsignedAt signed32
+by-face-5 = refl
+
+pub inside-2-0-0 : lookupOf stepSheet stepMap (at 2 0) ≡ Done Inside
+unfolding rootOf leafIn leavesIn leafAt placeOf placeBy unsignedAt signed32 leafHolding rootCube holdsPoint axisHolds answerOf faceHolds pointCube along onward entryOf boundsOf across difference stateOf faceState bothOf
+inside-2-0-0 = step-lookup (at 2 0)
+
+pub outside-3-0-0 : lookupOf stepSheet stepMap (at 3 0) ≡ Done Outside
+unfolding rootOf leafIn leavesIn leafAt placeOf placeBy unsignedAt signed32 leafHolding rootCube holdsPoint axisHolds answerOf faceHolds pointCube along onward entryOf boundsOf across difference stateOf faceState bothOf
+outside-3-0-0 = step-lookup (at 3 0)
+
+pub undecided-2-2-0 : lookupOf stepSheet stepMap (at 2 2) ≡ Done Undecided
+unfolding rootOf leafIn leavesIn leafAt placeOf placeBy unsignedAt signed32 leafHolding rootCube holdsPoint axisHolds answerOf
+undecided-2-2-0 = step-lookup (at 2 2)
+
+-- on a high plane
+pub not-in-root-4-0-0 : lookupOf stepSheet stepMap (at 4 0) ≡ NotInRoot
+unfolding rootOf unsignedAt signed32 rootCube holdsPoint axisHolds
+not-in-root-4-0-0 = step-lookup (at 4 0)

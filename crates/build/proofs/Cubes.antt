@@ -1,6 +1,6 @@
 -- What a cube that was judged tells: its state, whether a record passes the limit over it, and what it gives by itself. Assumes nothing.
-use mathlib.Core.Path.{_≡_, refl, sym, ap, _∙_}
-use mathlib.Core.Bool.{Bool, true, false}
+use mathlib.Core.Path.{_≡_, refl, ap, _∙_}
+use mathlib.Core.Bool.{true, false}
 use mathlib.Core.List.{List, [], _∷_, _++_}
 use Prim.Native.Nat.{ℕ, zero, suc, _+_, _-_, _^_, _≤_, _<_}
 use native.Mathlib.Nat.{zero-lt-suc, le-trans, pow-le-pow-right}
@@ -11,7 +11,6 @@ use Rattle.sheet.specs.declared.Record.{Record}
 use Rattle.cube.specs.declared.Cube.{Cube}
 use Rattle.cube.specs.Cubes.{childOf}
 use Rattle.zonemap.specs.declared.Leaf.{Leaf}
-use Rattle.colour.specs.declared.State.{State}
 use Rattle.colour.specs.declared.Judged.{Judged}
 use Rattle.colour.specs.declared.Judged.the-variants.{Known, Past}
 use Rattle.colour.specs.Entries.{blank, entries, judgedOf, pastOf}

@@ -6,19 +6,14 @@ use Prim.Native.Nat.{ℕ, _-_}
 use native.Mathlib.Omega.{arith}
 use lib.IntN.{pos}
 use lib.ListN.{length, getD, replicate, length-append}
-use Rattle.bigendian.specs.Numbers.{unsignedAt, signed32, bytesOf, unsigned32}
+use Rattle.bigendian.specs.Numbers.{bytesOf, unsigned32}
 use lib.Signed.{leZ, ltZ}
 use Rattle.integers.proofs.Order.{by-test}
 use Rattle.interval.specs.declared.Interval.{Interval}
 use Rattle.interval.specs.Rules.{sum, difference}
 use Rattle.interval.specs.Limit.{isSmall, isWithin}
 use Rattle.sheet.specs.declared.Record.{Record}
-use Rattle.sheet.specs.declared.Record.the-variants.{Constant, X, Y, Difference, Face, Both}
-use Rattle.sheet.specs.declared.Checked.the-variants.{Good}
-use Rattle.sheet.specs.Table.{rowOf, rowAt, readAt}
-use Rattle.sheet.specs.Records.{readFrom, reading, recordsOf}
-use Rattle.sheet.specs.Operands.{firstUnmet, lastSort}
-use Rattle.sheet.specs.Check.{sortedOf, checkOf}
+use Rattle.sheet.specs.declared.Record.the-variants.{Face}
 use Rattle.sheet.specs.Along.{along, onward}
 use Rattle.sheet.proofs.Along.{length-along, entry}
 use Rattle.sheet.proofs.StepRoom.{stepSheet, stepRecords, step-records, step-check}

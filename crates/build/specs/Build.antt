@@ -1,7 +1,7 @@
 -- Building a zone map: what is answered, and what the lent buffer holds afterwards. Assumes nothing: these are definitions.
 use Prim.Native.Nat.{ℕ}
 use mathlib.Core.Bool.{cond, not}
-use mathlib.Core.List.{List, [], _∷_, _++_}
+use mathlib.Core.List.{List, _++_}
 use lib.Dec.{ltb}
 use lib.ListN.{length, drop}
 use Rattle.integers.specs.First.{onFirst}

@@ -15,9 +15,9 @@ use Rattle.interval.specs.declared.Interval.{Interval}
 use Rattle.interval.specs.declared.Bounded.{Bounded}
 use Rattle.interval.specs.declared.Bounded.the-variants.{Within, Past as Over}
 use Rattle.interval.specs.Rules.{from}
-use Rattle.interval.specs.Limit.{SmallEnds, isWithin, boundedOf}
+use Rattle.interval.specs.Limit.{isWithin, boundedOf}
 use Rattle.interval.proofs.Limit.{limit-back}
-use Rattle.interval.proofs.Facts.{ends-within, past-tells, within-is, within-small}
+use Rattle.interval.proofs.Facts.{past-tells, within-is, within-small}
 use Rattle.sheet.specs.declared.Record.{Record}
 use Rattle.sheet.specs.declared.Record.the-variants.{X}
 use Rattle.sheet.specs.declared.Row.the-variants.{Known as Fits}

@@ -1,27 +1,25 @@
 -- Over a cube that lies in another, each record's bounds lie in its bounds over the other. So where none passes the limit over a cube, none does over a smaller one. Assumes nothing.
-use mathlib.Core.Path.{_≡_, refl, sym, ap, _∙_}
-use mathlib.Core.Bool.{Bool, true, false, cond, true≢false}
+use mathlib.Core.Path.{_≡_}
 use mathlib.Core.List.{List, [], _∷_}
-use Prim.Native.Nat.{ℕ, zero, suc, _≤_, _<_, _^_}
+use Prim.Native.Nat.{ℕ, _≤_, _^_}
 use native.Mathlib.Omega.{arith}
 use borrow.Author.Tests.{ltb-false, le-ltb}
 use lib.Dec.{ltb}
 use lib.IntN.{ℤ, pos, negsuc, natAbs, _+ℤ_}
 use lib.ListN.{length, getD}
-use lib.Signed.{_≤ℤ_, ≤ℤ-refl}
+use lib.Signed.{_≤ℤ_}
 use Rattle.integers.proofs.Naturals.{ints, +-is}
 use Rattle.integers.proofs.Order.{by-test, ≤-trans}
 use Rattle.interval.specs.declared.Interval.{Interval}
-use Rattle.interval.specs.Limit.{SmallEnds, isWithin}
+use Rattle.interval.specs.Limit.{SmallEnds}
 use Rattle.interval.specs.Claims.{Inside}
-use Rattle.interval.proofs.Facts.{ends-within, within-ends}
 use Rattle.interval.proofs.Inside.{only-inside, sum-inside, difference-inside, product-inside, square-inside}
 use Rattle.sheet.specs.declared.Record.{Record}
 use Rattle.sheet.specs.declared.Record.the-variants.{Constant, X, Y, Z, Sum, Difference, Product, Square, Face, Both, Either, Complement}
 use Rattle.sheet.proofs.Along.{Pairs, related, length-along}
 use Rattle.cube.specs.declared.Cube.{Cube}
 use Rattle.cube.specs.Points.{CubeInside}
-use Rattle.colour.specs.Bounds.{across, none, boundsOf}
+use Rattle.colour.specs.Bounds.{across, boundsOf}
 use Rattle.colour.specs.Entries.{Entry, blank, entryOf, entries, beforePast, pastOf}
 use Rattle.colour.proofs.FirstPast.{Keep, none-past, all-keep}
 

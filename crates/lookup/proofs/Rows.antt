@@ -1,13 +1,12 @@
 -- Document 01's worked rows of looking up in the step room's map at depth 1. Assumes nothing.
 use mathlib.Core.Path.{_≡_, refl}
 use mathlib.Core.Bool.{cond, not}
-use mathlib.Core.List.{List, []}
+use mathlib.Core.List.{[]}
 use Prim.Native.Nat.{ℕ}
 use lib.IntN.{pos}
 use Rattle.bigendian.specs.Numbers.{unsignedAt, signed32}
 use Rattle.interval.specs.Rules.{difference}
 use Rattle.interval.specs.Limit.{isSmall, isWithin}
-use Rattle.sheet.specs.Records.{recordsOf}
 use Rattle.sheet.specs.Along.{along, onward}
 use Rattle.sheet.proofs.StepRoom.{stepSheet, stepRecords, step-records, step-check}
 use Rattle.kinds.specs.Faces.{hasFace}
@@ -15,14 +14,12 @@ use Rattle.cube.specs.declared.Point.{Point}
 use Rattle.cube.specs.Limits.{axisFits, sizesFit, inLimits}
 use Rattle.cube.specs.Cubes.{rootCube}
 use Rattle.cube.specs.Points.{axisHolds, holdsPoint, pointCube, placeBy, placeOf}
-use Rattle.zonemap.specs.declared.Leaf.{Leaf}
-use Rattle.zonemap.specs.Opening.{lengthGood, rootOf, leafIn, leavesIn, levelGood, faceGood, placeGood, leafGood, leavesFault, headerFault, faultOf, leafAt, offsetAt}
+use Rattle.zonemap.specs.Opening.{lengthGood, rootOf, leafIn, leavesIn, levelGood, faceGood, placeGood, leafGood, leavesFault, headerFault, faultOf, leafAt}
 use Rattle.zonemap.proofs.Rows.{stepMap}
 use Rattle.colour.specs.Bounds.{across, boundsOf}
 use Rattle.colour.specs.States.{faceState, bothOf, stateOf}
 use Rattle.colour.specs.Entries.{entryOf, beforePast, pastOf}
 use Rattle.lookup.specs.declared.Answer.the-variants.{Outside, Inside, Undecided}
-use Rattle.lookup.specs.declared.Reply.{Reply}
 use Rattle.lookup.specs.declared.Reply.the-variants.{Done, NotInRoot}
 use Rattle.lookup.specs.Lookup.{faceHolds, answerOf, leafHolding, mapReply, lookupOf}
 

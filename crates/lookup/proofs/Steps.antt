@@ -1,6 +1,6 @@
 -- The reply of looking up at each test, as the functions on the way learn it. Assumes nothing.
 use mathlib.Core.Path.{_≡_, refl, sym, ap, _∙_}
-use mathlib.Core.Bool.{Bool, true, false, cond, not}
+use mathlib.Core.Bool.{Bool, true, false, not}
 use mathlib.Core.List.{List, [], _∷_}
 use Prim.Native.Nat.{ℕ, _+_, _*_, _%_, _≤_, _<_, _^_}
 use native.Mathlib.Nat.{zero-lt-suc, one-le-pow}
@@ -23,7 +23,6 @@ use Rattle.cube.specs.declared.Cube.{Cube}
 use Rattle.cube.specs.Limits.{inLimits, Near}
 use Rattle.cube.specs.Cubes.{rootCube}
 use Rattle.cube.specs.Points.{holdsPoint, pointCube, placeOf}
-use Rattle.cube.proofs.Limits.{limits-sizes}
 use Rattle.cube.proofs.Cubes.{root-near, near-fewer}
 use Rattle.cube.proofs.Places.{place-below, point-near, point-inside}
 use Rattle.zonemap.specs.declared.Leaf.{Leaf}
@@ -32,7 +31,7 @@ use Rattle.zonemap.specs.declared.Header.the-variants.{Good as GoodHeader, Bad 
 use Rattle.zonemap.specs.declared.Opened.{Opened}
 use Rattle.zonemap.specs.declared.Opened.the-variants.{Good as GoodLeaves, Bad as BadLeaves}
 use Rattle.zonemap.specs.Opening.{rootOf, leafIn, leavesOf, leafAt, offsetAt, leavesFault, headerFault, faultOf}
-use Rattle.zonemap.proofs.Found.{header-sizes, found-inside}
+use Rattle.zonemap.proofs.Found.{header-sizes, found-inside, opens-parts}
 use Rattle.colour.specs.declared.State.{State}
 use Rattle.colour.specs.declared.Judged.{Judged}
 use Rattle.colour.specs.declared.Judged.the-variants.{Known, Past}
@@ -156,15 +155,9 @@ module _ (rs : List Record) (root : Root) (q : Cube) (is : q ≡ rootCube root) 
   judged-past n h = past-first rs (rootCube root) which j judged-root n h
 
 -- ---- a map that opens
--- its bytes before the leaves have no fault, and its leaves none
-first-none : (ns rest : List ℕ) → onFirst ns (λ (n : ℕ). n ∷ []) rest ≡ [] → (ns ≡ []) × (rest ≡ [])
-first-none [] rest e = (refl, e)
-first-none (n ∷ ns) rest e = let z : _≡_ {A = ℕ} 0 1 = cc in absurd (omega arith)
-
 module _ (rs : List Record) (map : List ℕ) (opens : faultOf (hasFace rs) map ≡ []) where
   parts : (headerFault map ≡ []) × (leavesFault (hasFace rs) (rootOf map .d) 0 19 (leavesOf map) ≡ [])
-  unfolding faultOf
-  parts = first-none (headerFault map) _ opens
+  parts = opens-parts (hasFace rs) map opens
 
   sizes : (19 ≤ length map) × (length map % 3 ≡ 1) × (inLimits (rootOf map) ≡ true)
   sizes = header-sizes map (parts .0)

@@ -1,7 +1,7 @@
 -- The leaves that building enumerates run from the root's first place to its last: each is good at its own place, and is the leaf of the cube there. So a built map
 -- opens, with these leaves. Assumes nothing.
 use mathlib.Core.Path.{_≡_, refl, sym, ap, _∙_}
-use mathlib.Core.Bool.{Bool, true, false, _&&_, _||_, not}
+use mathlib.Core.Bool.{Bool, true, false, _||_, not}
 use mathlib.Core.List.{List, [], _∷_}
 use Prim.Native.Nat.{ℕ, zero, suc, _+_, _-_, _*_, _%_, _^_, _≤_, _<_}
 use native.Mathlib.Nat.{mul-mod-left, mul-le-mul-right}
@@ -20,8 +20,7 @@ use Rattle.cube.proofs.Limits.{limits-sizes}
 use Rattle.cube.proofs.Corners.{times-eight}
 use Rattle.cube.proofs.Cubes.{child-cube, root-cube}
 use Rattle.zonemap.specs.declared.Leaf.{Leaf}
-use Rattle.zonemap.specs.Map.{mapOf}
-use Rattle.zonemap.specs.Opening.{rootOf, sizeOf, levelGood, faceGood, placeGood, leafGood, faultOf, leavesOf as leavesIn}
+use Rattle.zonemap.specs.Opening.{rootOf, levelGood, placeGood, leafGood, faultOf, leavesOf as leavesIn}
 use Rattle.zonemap.specs.Leaves.{placeAt, nowhere}
 use Rattle.zonemap.proofs.Runs.{Run, Fine, run-append, run-map, run-at}
 use Rattle.zonemap.proofs.Trip.{leaves-back, root-back, map-opens}

@@ -1,21 +1,16 @@
 -- Looking up in a map that was built from that sheet: it opens and no record passes the limit over its root, so the answer is that of the leaf which building
 -- enumerated for the point, or the point is not in the root. Assumes nothing.
-use mathlib.Core.Path.{_≡_, refl, sym, ap, _∙_}
-use mathlib.Core.Bool.{Bool, true, false, cond, not}
-use mathlib.Core.List.{List, [], _∷_, _++_}
+use mathlib.Core.Path.{_≡_, sym, ap, _∙_}
+use mathlib.Core.Bool.{true, cond}
+use mathlib.Core.List.{List, [], _++_}
 use mathlib.Core.Logic.{_⊎_, inl, inr}
-use Prim.Native.Nat.{ℕ, _+_, _*_, _^_, _<_, _≤_}
+use Prim.Native.Nat.{ℕ, _+_, _^_, _<_}
 use native.Mathlib.Omega.{arith}
 use lib.ListN.{length, getD, take, drop}
 use lib.Seq.{take-append-seam}
-use Rattle.integers.specs.First.{onFirst}
 use Rattle.integers.proofs.Order.{by-test}
 use Rattle.sheet.specs.declared.Record.{Record}
-use Rattle.sheet.specs.declared.Checked.{Checked}
-use Rattle.sheet.specs.declared.Checked.the-variants.{Good, Refused}
 use Rattle.sheet.specs.Records.{recordsOf}
-use Rattle.sheet.specs.Check.{checkOf}
-use Rattle.kinds.specs.Faces.{hasFace}
 use Rattle.cube.specs.declared.Root.{Root}
 use Rattle.cube.specs.declared.Point.{Point}
 use Rattle.cube.specs.Limits.{inLimits}
@@ -23,15 +18,13 @@ use Rattle.cube.specs.Cubes.{rootCube}
 use Rattle.cube.specs.Points.{holdsPoint, placeOf}
 use Rattle.cube.proofs.Places.{place-below}
 use Rattle.zonemap.specs.declared.Leaf.{Leaf}
-use Rattle.zonemap.specs.Opening.{rootOf, leafIn, leafAt, offsetAt, faultOf, leavesOf as leavesIn}
-use Rattle.zonemap.specs.Leaves.{nowhere, Holds}
+use Rattle.zonemap.specs.Opening.{leafAt, leavesOf as leavesIn}
+use Rattle.zonemap.specs.Leaves.{nowhere}
 use Rattle.zonemap.proofs.Found.{leaf-holds, leaf-bytes}
 use Rattle.colour.specs.Entries.{pastOf}
 use Rattle.build.specs.declared.Reply.the-variants.{Done as Built}
-use Rattle.build.specs.Solid.{leavesOf}
-use Rattle.build.specs.Build.{Outcome, outcome, builtMap, storedOf, solidOf, onSheet, buildOf}
+use Rattle.build.specs.Build.{outcome, builtMap, buildOf}
 use Rattle.build.proofs.Answers.{Made, done-made}
-use Rattle.lookup.specs.declared.Reply.{Reply}
 use Rattle.lookup.specs.declared.Reply.the-variants.{Done, NotInRoot}
 use Rattle.lookup.specs.Lookup.{answerOf, leafHolding, mapReply, lookupOf, codeOf}
 use Rattle.roundtrip.proofs.Built.{True, all, root-run, built-opens, built-root, built-leaves}

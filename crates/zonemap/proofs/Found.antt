@@ -8,10 +8,11 @@ use borrow.Author.Tests.{lt-ltb, le-ltb, ltb-true, ltb-false}
 use lib.Dec.{eqb, ltb}
 use lib.ListN.{length, getD}
 use Rattle.integers.proofs.Order.{by-test}
+use Rattle.integers.specs.First.{onFirst}
 use Rattle.cube.specs.Limits.{inLimits}
 use Rattle.zonemap.specs.declared.Leaf.{Leaf}
 use Rattle.zonemap.specs.Map.{mapVersion}
-use Rattle.zonemap.specs.Opening.{lengthGood, rootOf, leafIn, leavesIn, leavesOf, sizeOf, leavesFault, headerFault, leafAt, offsetAt}
+use Rattle.zonemap.specs.Opening.{lengthGood, rootOf, leafIn, leavesIn, leavesOf, sizeOf, leavesFault, headerFault, faultOf, leafAt, offsetAt}
 use Rattle.zonemap.specs.Leaves.{placeAt, nowhere, Holds}
 use Rattle.zonemap.proofs.Runs.{Run, Fine, opens-run, one-fault}
 use Rattle.zonemap.proofs.Tests.{length-told}
@@ -69,3 +70,12 @@ header-sizes s e =
     (λ v. absurd (one-fault 5 (rw (t, u, v) at e))))
     (λ u. absurd (one-fault 4 (rw (t, u) at e))))
     (λ t. absurd (one-fault 0 (rw t at e)))
+
+-- a map that opens has no fault before its leaves, and none in them
+first-none : (ns rest : List ℕ) → onFirst ns (λ (n : ℕ). n ∷ []) rest ≡ [] → (ns ≡ []) × (rest ≡ [])
+first-none [] rest e = (refl, e)
+first-none (n ∷ ns) rest e = absurd (one-fault n e)
+
+pub opens-parts : (named : ℕ → Bool) (s : List ℕ) → faultOf named s ≡ [] → (headerFault s ≡ []) × (leavesFault named (rootOf s .d) 0 19 (leavesOf s) ≡ [])
+unfolding faultOf
+opens-parts named s e = first-none (headerFault s) _ e

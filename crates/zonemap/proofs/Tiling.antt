@@ -1,8 +1,8 @@
 -- Each whole point of the root of a map that opens is in one leaf of it, and in one only: the leaf that holds its place. Assumes nothing.
-use mathlib.Core.Path.{_≡_, sym, ap, _∙_}
+use mathlib.Core.Path.{_≡_}
 use mathlib.Core.Bool.{Bool, true}
 use mathlib.Core.List.{List, []}
-use Prim.Native.Nat.{ℕ, _+_, _-_, _*_, _/_, _%_, _^_, _≤_, _<_}
+use Prim.Native.Nat.{ℕ, _+_, _-_, _*_, _/_, _^_, _<_}
 use native.Mathlib.Nat.{div-add-mod'}
 use native.Mathlib.Omega.{arith}
 use lib.ListN.{length, getD}
@@ -13,14 +13,26 @@ use Rattle.cube.specs.Cubes.{rootCube, cubeAt}
 use Rattle.cube.specs.Points.{holdsPoint, placeOf}
 use Rattle.cube.proofs.Places.{place-below, placed-holds, holds-placed}
 use Rattle.zonemap.specs.declared.Leaf.{Leaf}
-use Rattle.zonemap.specs.Opening.{sizeOf, leafAt, leavesFault}
+use Rattle.zonemap.specs.Opening.{rootOf, leavesOf, sizeOf, faultOf, leafAt}
 use Rattle.zonemap.specs.Leaves.{placeAt, nowhere, Holds}
 use Rattle.zonemap.proofs.Runs.{Run, Fine, run-at, opens-run, good-level, good-place}
-use Rattle.zonemap.proofs.Found.{leaf-holds, holds-one}
+use Rattle.zonemap.proofs.Found.{leaf-holds, holds-one, header-sizes, opens-parts}
 
-module _ (named : ℕ → Bool) (r : Root) (ls : List Leaf) (within : inLimits r ≡ true) (run : Run (Fine named (r .d)) (r .d) 0 ls (8 ^ r .d)) where
+module _ (named : ℕ → Bool) (s : List ℕ) (opens : faultOf named s ≡ []) where
+  abbrev r : Root
+  r = rootOf s
+
   abbrev d : ℕ
   d = r .d
+
+  abbrev ls : List Leaf
+  ls = leavesOf s
+
+  within : inLimits r ≡ true
+  within = header-sizes s (opens-parts named s opens .0) .2
+
+  run : Run (Fine named d) d 0 ls (8 ^ d)
+  run = opens-run named d 0 19 ls (opens-parts named s opens .1)
 
   -- leaf i, and whether its cube holds a point
   abbrev leaf : ℕ → Leaf

@@ -1,5 +1,4 @@
 use Rattle.cube.proofs.Limits.{limits-sizes}
-use Rattle.colour.proofs.Told.{known-none, past-first}
 use Rattle.lookup.proofs.Steps.{opened-within, opened-near, leaf-room, judged-none, judged-past, over-root, not-in-root, judgeable, answered}
 use borrow.Author.Needs.{needs}
 use Rattle.lookup.proofs.looking.in_root.Statement.{statement}

@@ -1,7 +1,4 @@
 use Rattle.cube.proofs.Limits.{limits-sizes}
-use mathlib.Core.Path.{sym, ap, _∙_}
-use Rattle.cube.specs.declared.Cube.{Cube}
-use Rattle.cube.specs.Points.{holdsPoint}
 use Rattle.lookup.proofs.Steps.{place-inside, place-outside, root-holds}
 use borrow.Author.Needs.{needs}
 use Rattle.lookup.proofs.looking.place_or_first.Statement.{statement}

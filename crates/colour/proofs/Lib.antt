@@ -5,3 +5,4 @@ pub mod Rows
 pub mod FirstPast
 pub mod Told
 pub mod Smaller
+pub mod Exact

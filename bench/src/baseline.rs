@@ -211,7 +211,7 @@ pub struct Root {
 }
 
 impl Root {
-    fn is_within_limits(&self) -> bool {
+    pub fn is_within_limits(&self) -> bool {
         let most = 1 << 20;
         self.k <= 16
             && self.d <= self.k.min(10)
@@ -219,6 +219,14 @@ impl Root {
                 .corner
                 .iter()
                 .all(|&low| low >= -most && i64::from(low) + (1i64 << self.k) <= i64::from(most))
+    }
+
+    fn cube(&self) -> Cube {
+        Cube {
+            low: self.corner.map(i64::from),
+            side: 1 << self.k,
+            level: 0,
+        }
     }
 }
 
@@ -286,6 +294,34 @@ fn colour(
     Ok(states[records.len() - 1])
 }
 
+/// Puts the limit to all records over the root; the error is the first record that passes it.
+pub fn limited_over_root(records: &[Record], root: &Root) -> Result<(), usize> {
+    let mut bounds = vec![Interval::default(); records.len()];
+    let mut states = vec![State::default(); records.len()];
+    colour(records, &mut bounds, &mut states, &root.cube()).map(|_| ())
+}
+
+/// Whether a point of a root over which no record passes the limit satisfies a face of the sheet.
+pub fn satisfies(records: &[Record], face: u8, point: [i32; 3]) -> bool {
+    let [x, y, z] = point.map(i64::from);
+    let mut values = Vec::with_capacity(records.len());
+    for &record in &records[..face as usize] {
+        values.push(match record {
+            Record::Constant(c) => c,
+            Record::X => x,
+            Record::Y => y,
+            Record::Z => z,
+            Record::Sum(a, b) => values[a as usize] + values[b as usize],
+            Record::Difference(a, b) => values[a as usize] - values[b as usize],
+            Record::Product(a, b) => values[a as usize] * values[b as usize],
+            Record::Square(a) => values[a as usize] * values[a as usize],
+            // No arithmetic record has a logical one as an operand.
+            Record::Face(_) | Record::Both(..) | Record::Either(..) | Record::Complement(_) => 0,
+        });
+    }
+    matches!(records[face as usize], Record::Face(a) if values[a as usize] <= 0)
+}
+
 impl Build<'_> {
     /// Appends the leaves of a cube.
     fn add(&mut self, cube: Cube) -> Result<(), Refusal> {
@@ -326,11 +362,7 @@ pub fn build(sheet: &[u8], root: &Root) -> Result<Map, Refusal> {
         map,
         cubes: 0,
     };
-    build.add(Cube {
-        low: root.corner.map(i64::from),
-        side: 1 << root.k,
-        level: 0,
-    })?;
+    build.add(root.cube())?;
     let mut bytes = build.map;
     let following = bytes.len() as u32 - 4;
     bytes[..4].copy_from_slice(&following.to_be_bytes());

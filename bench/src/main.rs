@@ -1,29 +1,30 @@
-//! Times building by the proved library beside the baseline, and measures its stack.
-//! usage: bench [speed], bench stack, bench rooms FILE..
+//! Times building and looking up by the proved library beside plain Rust programs, and measures its stack.
+//! usage: bench [speed], bench lookup, bench stack, bench rooms FILE..
 mod baseline;
 mod clock;
-#[cfg(library)]
 mod library;
+mod lookups;
+mod scan;
 mod sheets;
 mod stack;
+mod turns;
 
 use baseline::Root;
 use sheets::Case;
 use std::hint::black_box;
-use std::time::Duration;
+use turns::{each, interleaved, RUNS};
 
-const RUNS: usize = 15;
-/// A run repeats the build until it is long enough for the clock.
-const LEAST_RUN: Duration = Duration::from_millis(5);
+const USAGE: &str = "usage: bench [speed], bench lookup, bench stack, bench rooms FILE..";
 
 fn main() {
     let words: Vec<String> = std::env::args().skip(1).collect();
     match words.first().map(String::as_str) {
         None | Some("speed") => speed(),
+        Some("lookup") => lookups::speed(),
         Some("stack") => stack(),
         Some("rooms") => words[1..].iter().for_each(|path| room(path)),
         Some(_) => {
-            eprintln!("usage: bench [speed], bench stack, bench rooms FILE..");
+            eprintln!("{USAGE}");
             std::process::exit(2);
         }
     }
@@ -33,42 +34,6 @@ fn leaves(map: &[u8]) -> usize {
     (map.len() - 19) / 3
 }
 
-/// The processor time of one build, over as many as fill a run.
-fn time(repeats: u32, build: &mut dyn FnMut()) -> Duration {
-    let start = clock::now();
-    for _ in 0..repeats {
-        build();
-    }
-    (clock::now() - start) / repeats
-}
-
-/// The median and the least of some times.
-struct Times {
-    median: Duration,
-    least: Duration,
-}
-
-/// Times each of some ways to build, in turns, so that what slows the machine for a while slows all of them.
-fn interleaved<const N: usize>(mut builds: [&mut dyn FnMut(); N]) -> [Times; N] {
-    let repeats = builds
-        .each_mut()
-        .map(|build| (LEAST_RUN.as_nanos() / time(1, build).as_nanos().max(1)) as u32 + 1);
-    let mut all = [const { Vec::new() }; N];
-    for _ in 0..RUNS {
-        for (i, build) in builds.iter_mut().enumerate() {
-            all[i].push(time(repeats[i], build));
-        }
-    }
-    all.map(|mut times| {
-        times.sort();
-        Times {
-            median: times[RUNS / 2],
-            least: times[0],
-        }
-    })
-}
-
-#[cfg(library)]
 fn speed() {
     println!("nanoseconds of processor time a cube, median of {RUNS} runs (least)");
     println!("records   cubes  leaves            baseline             library  library / baseline");
@@ -86,8 +51,8 @@ fn speed() {
             &mut || _ = black_box(baseline::build(black_box(sheet), root)),
             &mut || _ = black_box(library::build(black_box(sheet), root, &mut out)),
         ]);
-        let a_cube = |time: Duration| time.as_nanos() as f64 / map.cubes as f64;
-        let ratio = |proved: Duration, plain: Duration| proved.as_secs_f64() / plain.as_secs_f64();
+        let a_cube = |time| each(time, map.cubes);
+        let ratio = plain.ratios(&proved);
         println!(
             "{records:7} {:7} {:7} {:9.1} ({:8.1}) {:9.1} ({:8.1}) {:11.2} ({:5.2})",
             map.cubes,
@@ -96,34 +61,8 @@ fn speed() {
             a_cube(plain.least),
             a_cube(proved.median),
             a_cube(proved.least),
-            ratio(proved.median, plain.median),
-            ratio(proved.least, plain.least),
-        );
-    }
-}
-
-#[cfg(not(library))]
-fn speed() {
-    println!("the library is not there (bench/native makes it), so this is the baseline alone");
-    println!("nanoseconds of processor time, median of {RUNS} runs (least)");
-    println!("records   cubes  leaves              a cube   a record and cube");
-    for Case {
-        records,
-        sheet,
-        root,
-    } in &sheets::corridors()
-    {
-        let map = baseline::build(sheet, root).expect("the sheet is good");
-        let [plain] = interleaved([&mut || _ = black_box(baseline::build(black_box(sheet), root))]);
-        let [median, least] =
-            [plain.median, plain.least].map(|time| time.as_nanos() as f64 / map.cubes as f64);
-        let n = *records as f64;
-        println!(
-            "{records:7} {:7} {:7} {median:9.1} ({least:8.1}) {:12.2} ({:4.2})",
-            map.cubes,
-            leaves(&map.bytes),
-            median / n,
-            least / n
+            ratio[0],
+            ratio[1],
         );
     }
 }
@@ -144,17 +83,16 @@ fn stack() {
     println!("an empty call: {} bytes of stack", stack::used(|| ()));
     let plain = stack::used(|| _ = black_box(baseline::build(&sheet, &root)));
     println!("the baseline's build: {plain} bytes of stack, and vectors");
-    #[cfg(library)]
-    {
-        let mut out = vec![0; map.bytes.len()];
-        let mut reply = Ok(0);
-        let proved = stack::used(|| reply = library::build(&sheet, &root, &mut out));
-        assert_eq!(reply, Ok(map.bytes.len()));
-        assert!(out == map.bytes, "the library's map is another");
-        println!("the library's build: {proved} bytes of stack");
-    }
-    #[cfg(not(library))]
-    println!("the library is not there (bench/native makes it)");
+    let mut out = vec![0; map.bytes.len()];
+    let mut reply = Ok(0);
+    let proved = stack::used(|| reply = library::build(&sheet, &root, &mut out));
+    assert_eq!(reply, Ok(map.bytes.len()));
+    assert!(out == map.bytes, "the library's map is another");
+    println!("the library's build: {proved} bytes of stack");
+    println!(
+        "the library's lookup: {} bytes of stack",
+        lookups::stack_used()
+    );
 }
 
 /// Prints the leaves of a room's map by class; the file is what the listing program reads.

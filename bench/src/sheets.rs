@@ -1,4 +1,5 @@
-//! Sheets to measure with: a corridor of rooms with bays, columns and domes in 50, 150 and 256 records, and one that is gray to depth 10.
+//! Sheets to measure with: a corridor of rooms with bays, columns and domes in 50, 150 and 256 records, a round hall in 16 and in 50, one
+//! with high powers, and one that is gray to depth 10.
 use crate::baseline::Root;
 use std::collections::HashMap;
 
@@ -225,6 +226,55 @@ pub fn corridors() -> [Case; 3] {
         corridor(150, 12, 7),
         corridor(256, 13, 8),
     ]
+}
+
+/// A quarter of a round hall, whose wall is two cylinders a few units apart, so that a map of it has as many leaves as it is deep. With
+/// more records than the wall has, a room stands in it, whose roof takes the rest.
+fn hall(records: usize, d: u8) -> Case {
+    let mut s = Sheet::default();
+    let (outer, inner) = (s.cylinder(0, 0, 5000), s.cylinder(0, 0, 4984));
+    let clear = s.complement(inner);
+    let wall = s.both(outer, clear);
+    if s.count() < records {
+        let space = space(&mut s, 0);
+        let room = roof(&mut s, space, records - 1);
+        s.either(wall, room);
+    }
+    assert_eq!(s.count(), records);
+    Case {
+        records,
+        sheet: s.finish(),
+        root: Root {
+            corner: [0, 0, 0],
+            k: 14,
+            d,
+        },
+    }
+}
+
+/// Fourth powers, which are past the limit over a root that is large or far off.
+pub fn steep() -> Case {
+    let mut s = Sheet::default();
+    let [x, y] = [0, 1].map(|axis| {
+        let square = s.offset_squared(axis, 0);
+        let power = s.product(square, square);
+        s.at_most(power, 200 * 200 * 200 * 200)
+    });
+    s.both(x, y);
+    Case {
+        records: s.count(),
+        sheet: s.finish(),
+        root: Root {
+            corner: [-700, -300, -5],
+            k: 10,
+            d: 6,
+        },
+    }
+}
+
+/// The sheets and roots of the maps that points are looked up in: about 1,000, 20,000 and 1,000,000 leaves of each sheet.
+pub fn halls() -> [Case; 6] {
+    [(16, 5), (50, 5), (16, 7), (50, 7), (16, 10), (50, 10)].map(|(records, d)| hall(records, d))
 }
 
 /// One point, as two faces that only that point satisfies: gray to depth 10 round it and white elsewhere. All kinds are used.

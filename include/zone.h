@@ -1,0 +1,64 @@
+/* Zone maps: building one from a zone sheet, and looking a point up in it. The library is libzone.a, for x86-64 Linux.
+
+   Every call answers for all bytes and all numbers; a caller checks nothing first. What a caller owes is memory:
+   - a pointer is good for as many bytes as the length that follows it says; with length 0 it may be null;
+   - during the call nobody else changes these bytes. `out` overlaps no other argument; `sheet` and `map` are only read, and may overlap;
+   - 16 KB of stack: zone_build has been measured to use under 8 KB, zone_lookup under 6 KB. Neither call allocates.
+
+   A length is that of the whole sheet or map. A buffer that is longer than the map in it is no map: pass the length that zone_build
+   gave. Numbers in sheets and maps are big-endian; one unit is 1/256 metre. */
+#ifndef ZONE_H
+#define ZONE_H
+
+#include <stddef.h>
+#include <stdint.h>
+
+#ifdef __cplusplus
+extern "C" {
+#endif
+
+/* The codes of replies, in order of number, with the number that comes with each. What is at fault is the first such. */
+enum ZoneCode {
+    ZONE_DONE = 0,          /* zone_build: the map's length; zone_lookup: the answer, one of ZoneAnswer */
+    ZONE_SHEET_LENGTH = 1,  /* the sheet has under 3 bytes, or its length disagrees: 0 */
+    ZONE_SHEET_VERSION = 2, /* the sheet's version is not 1: 0 */
+    ZONE_RECORD = 3,        /* a record runs over the end, has an unknown kind or a wrong count, or is the 257th: its offset in the sheet */
+    ZONE_OPERAND = 4,       /* an operand is not an earlier record, or is of the wrong sort: the record's number */
+    ZONE_SOLID = 5,         /* there are no records, or the last is not logical: how many records */
+    ZONE_LIMITS = 6,        /* zone_build: root or depth out of limits: 0 */
+    ZONE_OVER_ROOT = 7,     /* a record's bounds over the root pass 2^60: the record's number */
+    ZONE_SHORT = 8,         /* zone_build: the buffer is shorter than the map: the bytes needed */
+    ZONE_MAP = 9,           /* zone_lookup: the map does not open, or a terminal leaf of it names a record that is not a face of the sheet:
+                               the offset in the map, 0 for its length, 4 for its version, 5 for root or depth, a bad leaf's first byte, or
+                               the map's length if its leaves stop short */
+    ZONE_NOT_IN_ROOT = 10,  /* zone_lookup: the point is not in the map's root, the high planes left out: 0 */
+    ZONE_OVER_SMALLER = 11  /* zone_build: a record's bounds over a smaller cube pass 2^60: the record's number */
+};
+
+/* What zone_lookup answers with ZONE_DONE. */
+enum ZoneAnswer {
+    ZONE_OUTSIDE = 0,
+    ZONE_INSIDE = 1,
+    ZONE_UNDECIDED = 2 /* the bounds could not tell: ask the guest */
+};
+
+typedef struct ZoneReply {
+    uint32_t code;   /* one of ZoneCode */
+    uint64_t number; /* what it means stands with the code */
+} ZoneReply;
+
+/* Builds the zone map of a sheet at the start of `out`. The root has the low corner x, y, z and the side 2^k, with k at most 16, and lies
+   within -2^20 to 2^20; the depth d is at most 10 and at most k. With ZONE_DONE the number is the map's length, and the bytes of `out`
+   after the map are as they were. With any other code all of `out` is as it was; ZONE_SHORT tells how many bytes are needed, so a
+   call with out_len 0 asks for the length. */
+ZoneReply zone_build(const uint8_t *sheet, size_t sheet_len, int32_t x, int32_t y, int32_t z, uint8_t k, uint8_t d, uint8_t *out,
+                     size_t out_len);
+
+/* Looks the point x, y, z up in a zone map of a sheet. With ZONE_DONE the number is one of ZoneAnswer. */
+ZoneReply zone_lookup(const uint8_t *sheet, size_t sheet_len, const uint8_t *map, size_t map_len, int32_t x, int32_t y, int32_t z);
+
+#ifdef __cplusplus
+}
+#endif
+
+#endif

@@ -1,0 +1,58 @@
+/* Calls at the edges of what zone.h promises: no bytes, a buffer that is a byte short, and a map that lies in the buffer of its sheet.
+   Prints a line for each that is answered otherwise, and exits with 1 if there is one. */
+#include "zone.h"
+#include <stdio.h>
+
+#define NONE ((uint8_t *)0)
+
+/* The step room's sheet, and room for its map. */
+static uint8_t bytes[31 + 43] = {0, 29, 1, 1, 2, 1, 3, 5, 1, 0, 0, 0, 2, 3, 6, 0, 2, 3, 6, 1, 2, 2, 16, 3, 2, 16, 4, 3, 17, 5, 6};
+static const size_t sheet_len = 31;
+static int failed;
+
+static void is(const char *what, ZoneReply reply, uint32_t code, uint64_t number) {
+    if (reply.code == code && reply.number == number)
+        return;
+    printf("%s: %u with %llu\n", what, reply.code, (unsigned long long)reply.number);
+    failed = 1;
+}
+
+static int all_are(const uint8_t *at, size_t length, uint8_t byte) {
+    while (length > 0 && *at == byte) {
+        at++;
+        length--;
+    }
+    return length == 0;
+}
+
+static void no_bytes(void) {
+    is("no sheet", zone_build(NONE, 0, 0, 0, 0, 2, 1, NONE, 0), ZONE_SHEET_LENGTH, 0);
+    is("no buffer", zone_build(bytes, sheet_len, 0, 0, 0, 2, 1, NONE, 0), ZONE_SHORT, 43);
+    is("no sheet to look up by", zone_lookup(NONE, 0, NONE, 0, 0, 0, 0), ZONE_SHEET_LENGTH, 0);
+    is("no map", zone_lookup(bytes, sheet_len, NONE, 0, 0, 0, 0), ZONE_MAP, 0);
+}
+
+static void a_byte_short(void) {
+    uint8_t *out = bytes + sheet_len;
+    is("a byte short", zone_build(bytes, sheet_len, 0, 0, 0, 2, 1, out, 42), ZONE_SHORT, 43);
+    if (!all_are(out, 43, 0)) {
+        printf("a byte short: the buffer was changed\n");
+        failed = 1;
+    }
+}
+
+static void side_by_side(void) {
+    uint8_t *map = bytes + sheet_len;
+    is("sheet and map side by side", zone_build(bytes, sheet_len, 0, 0, 0, 2, 1, map, 43), ZONE_DONE, 43);
+    is("the furthest numbers", zone_lookup(bytes, sheet_len, map, 43, INT32_MIN, INT32_MAX, -1), ZONE_NOT_IN_ROOT, 0);
+    is("a point by face 5", zone_lookup(bytes, sheet_len, map, 43, 2, 0, 0), ZONE_DONE, ZONE_INSIDE);
+    is("the sheet as the map", zone_lookup(bytes, sheet_len, bytes, sheet_len, 0, 0, 0), ZONE_MAP, 0);
+    is("all numbers at their greatest", zone_build(bytes, sheet_len, INT32_MAX, INT32_MAX, INT32_MAX, 255, 255, map, 43), ZONE_LIMITS, 0);
+}
+
+int main(void) {
+    no_bytes();
+    a_byte_short();
+    side_by_side();
+    return failed;
+}

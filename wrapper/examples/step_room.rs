@@ -1,0 +1,32 @@
+//! Builds the map of the step room, x at most 2 and y at most 2, and looks points up in it.
+use zone::{Refusal, Root};
+
+const SHEET: &[u8] = include_bytes!("../../examples/step-room.sheet");
+const ROOT: Root = Root {
+    corner: [0, 0, 0],
+    k: 2,
+    d: 1,
+};
+
+/// The map of a sheet. The first call has no buffer and is told how long the map is.
+fn map_of(sheet: &[u8], root: Root) -> Result<Vec<u8>, Refusal> {
+    let mut map = Vec::new();
+    if let Err(Refusal::Short { needed }) = zone::build(sheet, root, &mut map) {
+        map.resize(needed, 0);
+    }
+    zone::build(sheet, root, &mut map)?;
+    Ok(map)
+}
+
+fn main() -> Result<(), Refusal> {
+    let map = map_of(SHEET, ROOT)?;
+    println!("the map has {} bytes", map.len());
+    for point in [[0, 0, 0], [3, 0, 0], [2, 2, 0]] {
+        println!("{point:?}: {:?}", zone::lookup(SHEET, &map, point)?);
+    }
+    match zone::lookup(SHEET, &map, [4, 0, 0]) {
+        Ok(answer) => println!("[4, 0, 0]: {answer:?}"),
+        Err(why) => println!("[4, 0, 0]: refused, {why}"),
+    }
+    Ok(())
+}

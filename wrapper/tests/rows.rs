@@ -1,0 +1,144 @@
+//! Document 01's rows through the safe calls: the step room, its lookups, and refusals of both calls.
+use zone::{build, lookup, Answer, Refusal, Root};
+
+const SHEET: &[u8] = include_bytes!("../../examples/step-room.sheet");
+
+fn root(d: u8) -> Root {
+    Root {
+        corner: [0, 0, 0],
+        k: 2,
+        d,
+    }
+}
+
+/// Document 01's map of the step room at depth 1.
+fn map() -> Vec<u8> {
+    let four = [1, 1, 0, 1, 2, 5, 1, 2, 6, 1, 4, 0];
+    let header = [0, 0, 0, 0x27, 1, 0, 0, 0, 0, 0, 0, 0, 0, 0, 0, 0, 0, 2, 1];
+    [&header[..], &four, &four].concat()
+}
+
+/// The map with one byte changed.
+fn damaged(at: usize, byte: u8) -> Vec<u8> {
+    let mut bytes = map();
+    bytes[at] = byte;
+    bytes
+}
+
+#[test]
+fn the_step_room_is_built_at_the_start_of_the_buffer() {
+    let mut out = [7; 50];
+    assert_eq!(build(SHEET, root(1), &mut out), Ok(43));
+    assert_eq!(out[..43], map());
+    assert_eq!(out[43..], [7; 7]);
+}
+
+#[test]
+fn a_buffer_that_is_a_byte_short_is_told_the_length_and_left_alone() {
+    let mut out = [7; 42];
+    assert_eq!(
+        build(SHEET, root(1), &mut out),
+        Err(Refusal::Short { needed: 43 })
+    );
+    assert_eq!(out, [7; 42]);
+}
+
+#[test]
+fn an_empty_buffer_is_told_the_length() {
+    assert_eq!(
+        build(SHEET, root(2), &mut []),
+        Err(Refusal::Short { needed: 85 })
+    );
+}
+
+#[test]
+fn points_of_the_step_room() {
+    let at = |point| lookup(SHEET, &map(), point);
+    assert_eq!(at([2, 0, 0]), Ok(Answer::Inside));
+    assert_eq!(at([3, 0, 0]), Ok(Answer::Outside));
+    assert_eq!(at([2, 2, 0]), Ok(Answer::Undecided));
+    assert_eq!(at([4, 0, 0]), Err(Refusal::NotInRoot));
+}
+
+#[test]
+fn bad_sheets_are_refused_by_both_calls() {
+    for (sheet, why) in [
+        (&[0, 0][..], Refusal::SheetLength),
+        (&[0, 1, 2], Refusal::SheetVersion),
+        (&[0, 3, 1, 1, 9], Refusal::Record { offset: 3 }),
+        (&[0, 4, 1, 2, 8, 0], Refusal::Operand { record: 0 }),
+        (&[0, 1, 1], Refusal::Solid { records: 0 }),
+        (&[0, 3, 1, 1, 2], Refusal::Solid { records: 1 }),
+    ] {
+        let mut out = [7; 43];
+        assert_eq!(build(sheet, root(1), &mut out), Err(why));
+        assert_eq!(out, [7; 43]);
+        assert_eq!(lookup(sheet, &map(), [0, 0, 0]), Err(why));
+    }
+}
+
+#[test]
+fn a_root_or_depth_out_of_limits_is_refused() {
+    for (k, d) in [(2, 3), (17, 0), (255, 255), (16, 11)] {
+        let corner = [0, 0, 0];
+        assert_eq!(
+            build(SHEET, Root { corner, k, d }, &mut []),
+            Err(Refusal::Limits)
+        );
+    }
+    let corner = [i32::MAX, 0, 0];
+    assert_eq!(
+        build(SHEET, Root { corner, k: 2, d: 1 }, &mut []),
+        Err(Refusal::Limits)
+    );
+}
+
+#[test]
+fn the_limit_of_bounds() {
+    // x, its square, that times x, a face; the root's only point is x 1048575 to 1048576, so 2^60 is reached.
+    let reached = [0, 13, 1, 1, 2, 2, 8, 0, 3, 7, 1, 0, 2, 16, 2];
+    // The same with x added to the third, and a face of that.
+    let passed = [0, 17, 1, 1, 2, 2, 8, 0, 3, 7, 1, 0, 3, 5, 2, 0, 2, 16, 3];
+    let root = Root {
+        corner: [1048575, 0, 0],
+        k: 0,
+        d: 0,
+    };
+    assert_eq!(build(&reached, root, &mut [0; 22]), Ok(22));
+    assert_eq!(
+        build(&passed, root, &mut [0; 22]),
+        Err(Refusal::OverRoot { record: 3 })
+    );
+}
+
+#[test]
+fn damaged_maps_are_refused_at_their_first_fault() {
+    let refused = |map: &[u8]| lookup(SHEET, map, [0, 0, 0]);
+    let at = |offset| Err(Refusal::Map { offset });
+    assert_eq!(refused(&[]), at(0));
+    assert_eq!(refused(&[map(), vec![0]].concat()), at(0));
+    assert_eq!(refused(&damaged(3, 0x28)), at(0));
+    assert_eq!(refused(&damaged(4, 2)), at(4));
+    assert_eq!(refused(&damaged(17, 17)), at(5));
+    assert_eq!(refused(&damaged(18, 3)), at(5));
+    // The second leaf has a level past the depth, an unknown class, and a record that is no face.
+    assert_eq!(refused(&damaged(22, 2)), at(22));
+    assert_eq!(refused(&damaged(23, 5)), at(22));
+    assert_eq!(refused(&damaged(24, 7)), at(22));
+    // The first leaf is black and names a face, and is the whole root, so that none can follow.
+    assert_eq!(refused(&damaged(21, 5)), at(19));
+    assert_eq!(refused(&damaged(19, 0)), at(22));
+    // Seven leaves stop short.
+    let mut short = damaged(3, 0x24);
+    short.truncate(40);
+    assert_eq!(refused(&short), at(40));
+}
+
+#[test]
+fn a_refusal_has_the_code_and_number_of_document_01() {
+    let why = build(SHEET, root(1), &mut [0; 42]).unwrap_err();
+    assert_eq!((why.code(), why.number()), (8, 43));
+    assert_eq!(why.to_string(), "the map needs a buffer of 43 bytes");
+    let why = lookup(SHEET, &damaged(23, 5), [0, 0, 0]).unwrap_err();
+    assert_eq!((why.code(), why.number()), (9, 22));
+}

@@ -30,7 +30,7 @@ use Rattle.zonemap.specs.declared.Header.{Header}
 use Rattle.zonemap.specs.declared.Header.the-variants.{Good as GoodHeader, Bad as BadHeader}
 use Rattle.zonemap.specs.declared.Opened.{Opened}
 use Rattle.zonemap.specs.declared.Opened.the-variants.{Good as GoodLeaves, Bad as BadLeaves}
-use Rattle.zonemap.specs.Opening.{rootOf, leafIn, leavesOf, leafAt, offsetAt, leavesFault, headerFault, faultOf}
+use Rattle.zonemap.specs.Opening.{rootOf, leafIn, leavesOf, marked, leafAt, offsetAt, leavesFault, headerFault, faultOf}
 use Rattle.zonemap.proofs.Found.{header-sizes, found-inside, opens-parts}
 use Rattle.colour.specs.declared.State.{State}
 use Rattle.colour.specs.declared.Judged.{Judged}
@@ -99,18 +99,15 @@ module _ (map : List ℕ) (root : Root) (head : headerFault map ≡ []) (is : ro
 
     -- the leaves, where the marks are those of the sheet's faces
     module _ (rs : List Record) (marks : List ℕ) (m : Marks marks rs) where
-      marked : (r : Record) → eqb (markOf r) 1 ≡ isFace r
-      marked r = by-test (isFace r) (λ t. rw t) (λ t. rw t)
+      mark-is : (r : Record) → eqb (markOf r) 1 ≡ isFace r
+      mark-is r = by-test (isFace r) (λ t. rw t) (λ t. rw t)
 
-      abbrev isMarked : ℕ → Bool
-      isMarked f = eqb (getD marks f 0) 1
-
-      named : isMarked ≡ hasFace rs
+      named : marked marks ≡ hasFace rs
       unfolding hasFace
-      named = λ i f. (ap (λ (n : ℕ). eqb n 1) (m .each f) ∙ marked (getD rs f X)) i
+      named = λ i f. (ap (λ (n : ℕ). eqb n 1) (m .each f) ∙ mark-is (getD rs f X)) i
 
       abbrev faults : List ℕ
-      faults = leavesFault isMarked (root .d) 0 19 (leavesOf map)
+      faults = leavesFault (marked marks) (root .d) 0 19 (leavesOf map)
 
       fault : faultOf (hasFace rs) map ≡ faults
       unfolding faultOf

@@ -35,7 +35,7 @@ pub fn lookup(sheet: &[u8], map: &[u8], x: i32, y: i32, z: i32) -> Reply
     }
 }
 
-// Reply 9, and the rest. A point outside the root has no place; the leaves are tested whichever place is asked.
+// Reply 9 of the bytes before the leaves, and the rest.
 fn in_map(sheet: &[u8], count: usize, map: &[u8], p: Point) -> Reply
     requires { ⌜ count ≡ length (recordsOf (now sheet)) ⌝ }
     ensures { λ r. ⌜ r ≡ mapReply (recordsOf (now (sheet .entry))) (now (map .entry)) p ⌝ }
@@ -50,7 +50,7 @@ fn in_map(sheet: &[u8], count: usize, map: &[u8], p: Point) -> Reply
     }
 }
 
-// Reply 9 of the leaves, and the rest.
+// Reply 9 of the leaves, and the rest. The leaves are tested wherever the point is, so one outside the root is looked for at the first place.
 fn in_leaves(sheet: &[u8], count: usize, map: &[u8], root: Root, p: Point) -> Reply
     requires { ⌜ count ≡ length (recordsOf (now sheet)) ⌝ ∗ ⌜ headerFault (now map) ≡ [] ⌝ ∗ ⌜ root ≡ rootOf (now map) ⌝ }
     ensures { λ r. ⌜ r ≡ mapReply (recordsOf (now (sheet .entry))) (now (map .entry)) p ⌝ }
@@ -82,6 +82,7 @@ fn in_root(sheet: &[u8], count: usize, map: &[u8], at: usize, root: Root, p: Poi
     requires { ⌜ count ≡ length (recordsOf (now sheet)) ⌝ ∗ ⌜ faultOf (hasFace (recordsOf (now sheet))) (now map) ≡ [] ⌝ ∗ ⌜ root ≡ rootOf (now map) ⌝ ∗ ⌜ at ≡ offsetAt (now map) (placeOrFirst root p) ⌝ }
     ensures { λ r. ⌜ r ≡ mapReply (recordsOf (now (sheet .entry))) (now (map .entry)) p ⌝ }
 {
+    // The limit alone is asked for, so any record will do.
     match colour::judge(sheet, count, root.cube(), 0) {
         Judged::Known(_) => {
             if root.cube().holds(p) {

@@ -4,11 +4,11 @@ ghost use mathlib.Core.Path.{_≡_};
 ghost use mathlib.Core.Bool.{cond, _&&_};
 ghost use Prim.Native.Nat.{_+_, _-_, _*_, _%_, _≤_, _<_, _^_};
 ghost use lib.Dec.{eqb, leb};
-ghost use lib.ListN.{length, getD};
+ghost use lib.ListN.{length};
 ghost use Rattle.integers.specs.First.{onFirst};
 ghost use Rattle.zonemap.specs.declared.Header.the-variants.{Good as GoodHeader, Bad as BadHeader};
 ghost use Rattle.zonemap.specs.declared.Opened.the-variants.{Good, Bad};
-ghost use Rattle.zonemap.specs.Opening.{lengthGood, rootOf, leafIn, leavesOf, levelGood, faceGood, leafGood, sizeOf, leavesFault, headerFault, leafAt};
+ghost use Rattle.zonemap.specs.Opening.{lengthGood, rootOf, leafIn, leavesOf, levelGood, faceGood, marked, leafGood, sizeOf, leavesFault, headerFault, leafAt};
 use crate::Header;
 use crate::Leaf;
 use crate::Opened;
@@ -95,7 +95,7 @@ fn level_is_good(d: u8, leaf: Leaf) -> bool
 // Face 0 unless class 2 or 3, and then one that is marked.
 fn face_is_good(faces: &[u8], leaf: Leaf) -> bool
     requires { ⌜ length (now faces) ≡ 256 ⌝ }
-    ensures { λ r. ⌜ r ≡ faceGood (λ f. eqb (getD (now (faces .entry)) f 0) 1) leaf ⌝ }
+    ensures { λ r. ⌜ r ≡ faceGood (marked (now (faces .entry))) leaf ⌝ }
 {
     let class = leaf.class;
     match class {
@@ -122,7 +122,7 @@ fn size_in_place(d: u8, place: u32, n: u8) -> u32
 // The size of a leaf that is good at a place, else 0; no size is 0.
 fn good_size(faces: &[u8], d: u8, place: u32, leaf: Leaf) -> u32
     requires { ⌜ d ≤ 10 ⌝ ∗ ⌜ place ≤ 2 ^ 30 ⌝ ∗ ⌜ length (now faces) ≡ 256 ⌝ }
-    ensures { λ r. ⌜ r ≡ cond (leafGood (λ f. eqb (getD (now (faces .entry)) f 0) 1) d place leaf) (sizeOf d leaf) 0 ⌝ }
+    ensures { λ r. ⌜ r ≡ cond (leafGood (marked (now (faces .entry))) d place leaf) (sizeOf d leaf) 0 ⌝ }
 {
     if level_is_good(d, leaf) {
         if face_is_good(faces, leaf) {
@@ -146,7 +146,7 @@ fn last_before(place: u32, m: u32, at: usize, found: usize) -> usize
 // The offset of the leaf that holds place m, or that of the first fault of the leaves. A terminal leaf may name the faces that are marked with 1.
 pub fn find(map: &[u8], faces: &[u8], d: u8, m: u32) -> Opened
     requires { ⌜ d ≤ 10 ⌝ ∗ ⌜ 19 ≤ length (now map) ⌝ ∗ ⌜ length (now map) % 3 ≡ 1 ⌝ ∗ ⌜ length (now faces) ≡ 256 ⌝ ∗ ⌜ m < 8 ^ d ⌝ }
-    ensures { λ r. ⌜ r ≡ onFirst (leavesFault (λ f. eqb (getD (now (faces .entry)) f 0) 1) d 0 19 (leavesOf (now (map .entry)))) Bad (Good (19 + 3 * leafAt d m 0 (leavesOf (now (map .entry))))) ⌝ }
+    ensures { λ r. ⌜ r ≡ onFirst (leavesFault (marked (now (faces .entry))) d 0 19 (leavesOf (now (map .entry)))) Bad (Good (19 + 3 * leafAt d m 0 (leavesOf (now (map .entry))))) ⌝ }
 {
     let mut place: u32 = 0;
     let mut at: usize = 19;

@@ -91,7 +91,7 @@ module _ (rs : List Record) where
 
     -- the two cases
     pub solid-cases : {A : Type 0} → (pastOf rs q ≡ [] → j ≡ Known (solidState rs q) → A) → ((n : ℕ) → pastOf rs q ≡ n ∷ [] → j ≡ Past n → A) → A
-    solid-cases f g = cases rs q solid j e (λ p i. f p (i ∙ ap Known solid-is)) g
+    solid-cases f g = cases rs q q refl solid j e (λ p i. f p (i ∙ ap Known solid-is)) g
 
     -- where the code splits the cube, the definition does
     pub splits : (left : ℕ) → (left ≡ 0 → ⊥) → grayJudged j ≡ true → Split rs left q
@@ -103,7 +103,7 @@ module _ (rs : List Record) where
     -- what is known of it, where no record passes the limit
     module _ (none : pastOf rs q ≡ []) where
       known : j ≡ Known (solidState rs q)
-      known = none-known rs q solid j e none ∙ ap Known solid-is
+      known = none-known rs q q refl solid j e none ∙ ap Known solid-is
 
       pub shown-is : shownOf j ≡ solidState rs q
       shown-is = rw known

@@ -19,11 +19,7 @@ use Rattle.cube.specs.declared.Cube.{Cube}
 use Rattle.cube.specs.Limits.{inLimits}
 use Rattle.cube.specs.Cubes.{rootCube}
 use Rattle.cube.proofs.Limits.{limits-sizes}
-use Rattle.colour.specs.declared.State.{State}
-use Rattle.colour.specs.declared.Judged.{Judged}
-use Rattle.colour.specs.declared.Judged.the-variants.{Known, Past}
-use Rattle.colour.specs.Entries.{judgedOf, pastOf}
-use Rattle.colour.proofs.Told.{known-none, past-first}
+use Rattle.colour.specs.Entries.{pastOf}
 use Rattle.zonemap.specs.declared.Leaf.{Leaf}
 use Rattle.zonemap.specs.Map.{headerOf, leavesBytes, mapOf}
 use Rattle.zonemap.proofs.Bytes.{header-length, map-length, sets-append}
@@ -64,16 +60,6 @@ module _ (rs : List Record) (root : Root) where
 
       pub counted-over : (n : ℕ) → c ≡ PastIn n → Begins n (pastsOf rs (root .d) (rootCube root))
       counted-over n h = tells-past rs (root .d) (rootCube root) n (sym counted ∙ h)
-
-    module _ (solid : ℕ) (j : Judged) (e : j ≡ judgedOf rs q solid) where
-      judged : j ≡ judgedOf rs (rootCube root) solid
-      judged = e ∙ ap (λ (k : Cube). judgedOf rs k solid) is
-
-      pub judged-none : (state : State) → j ≡ Known state → pastOf rs (rootCube root) ≡ []
-      judged-none state h = known-none rs (rootCube root) solid j judged state h
-
-      pub judged-over : (n : ℕ) → j ≡ Past n → pastOf rs (rootCube root) ≡ n ∷ []
-      judged-over n h = past-first rs (rootCube root) solid j judged n h
 
 module _ (rs : List Record) (root : Root) (d : List ℕ) where
   abbrev top : Cube

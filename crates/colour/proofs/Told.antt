@@ -13,21 +13,27 @@ use Rattle.colour.specs.declared.Judged.{Judged}
 use Rattle.colour.specs.declared.Judged.the-variants.{Known, Past}
 use Rattle.colour.specs.Entries.{blank, entries, beforePast, judgedOf, pastOf}
 
-module _ (rs : List Record) (q : Cube) (which : ℕ) (j : Judged) (e : j ≡ judgedOf rs q which) where
+-- q, the cube that was judged, is the one that is spoken of
+module _ (rs : List Record) (of q : Cube) (is : q ≡ of) (which : ℕ) (j : Judged) (e : j ≡ judgedOf rs q which) where
   abbrev asked : State
-  asked = getD (entries q rs) which blank .state
+  asked = getD (entries of rs) which blank .state
 
   -- the two cases
-  pub cases : {A : Type 0} → (pastOf rs q ≡ [] → j ≡ Known asked → A) → ((n : ℕ) → pastOf rs q ≡ n ∷ [] → j ≡ Past n → A) → A
+  pub cases : {A : Type 0} → (pastOf rs of ≡ [] → j ≡ Known asked → A) → ((n : ℕ) → pastOf rs of ≡ n ∷ [] → j ≡ Past n → A) → A
   unfolding judgedOf pastOf
-  cases f g = by-test (ltb (beforePast (entries q rs)) (length rs)) (λ t. g (beforePast (entries q rs)) (rw t) (e ∙ rw t)) (λ t. f (rw t) (e ∙ rw t))
+  cases f g =
+      let t = e ∙ ap (λ (k : Cube). judgedOf rs k which) is in
+      by-test (ltb (beforePast (entries of rs)) (length rs)) (λ b. g (beforePast (entries of rs)) (rw b) (t ∙ rw b)) (λ b. f (rw b) (t ∙ rw b))
 
-  pub known-none : (state : State) → j ≡ Known state → pastOf rs q ≡ []
+  pub known-none : (state : State) → j ≡ Known state → pastOf rs of ≡ []
   known-none state k = cases (λ p i. p) (λ n p i. let z : _≡_ {A = ℕ} 0 1 = cc in absurd (omega arith))
 
-  pub past-first : (n : ℕ) → j ≡ Past n → pastOf rs q ≡ n ∷ []
+  pub known-is : (state : State) → j ≡ Known state → state ≡ asked
+  known-is state k = cases (λ p i. cc) (λ n p i. let z : _≡_ {A = ℕ} 0 1 = cc in absurd (omega arith))
+
+  pub past-first : (n : ℕ) → j ≡ Past n → pastOf rs of ≡ n ∷ []
   past-first n k = cases (λ p i. let z : _≡_ {A = ℕ} 0 1 = cc in absurd (omega arith)) (λ m p i. p ∙ ap (λ (x : ℕ). x ∷ []) (let z : m ≡ n = cc in z))
 
   -- where no record passes the limit, the state is known
-  pub none-known : pastOf rs q ≡ [] → j ≡ Known asked
+  pub none-known : pastOf rs of ≡ [] → j ≡ Known asked
   none-known none = cases (λ p i. i) (λ n p i. let z : [] ≡ n ∷ [] = sym none ∙ p in let y : _≡_ {A = ℕ} 0 1 = cc in absurd (omega arith))

@@ -36,8 +36,8 @@ use Rattle.colour.specs.declared.State.{State}
 use Rattle.colour.specs.declared.Judged.{Judged}
 use Rattle.colour.specs.declared.Judged.the-variants.{Known, Past}
 use Rattle.colour.specs.States.{isIn}
-use Rattle.colour.specs.Entries.{blank, entries, judgedOf, pastOf}
-use Rattle.colour.proofs.Told.{cases, known-none, past-first}
+use Rattle.colour.specs.Entries.{judgedOf, pastOf}
+use Rattle.colour.proofs.Told.{known-is, past-first}
 use Rattle.colour.proofs.Smaller.{none-smaller}
 use Rattle.lookup.specs.declared.Answer.{Answer}
 use Rattle.lookup.specs.declared.Reply.{Reply}
@@ -140,17 +140,6 @@ module _ (root : Root) (p : Point) (q : Cube) (is : q ≡ rootCube root) (b : Bo
   unfolding placeOrFirst
   place-outside t = rw (sym holds-is ∙ t)
 
--- ---- the limit over the root: q is its cube, which was judged
-module _ (rs : List Record) (root : Root) (q : Cube) (is : q ≡ rootCube root) (which : ℕ) (j : Judged) (e : j ≡ judgedOf rs q which) where
-  judged-root : j ≡ judgedOf rs (rootCube root) which
-  judged-root = e ∙ ap (λ (k : Cube). judgedOf rs k which) is
-
-  pub judged-none : (state : State) → j ≡ Known state → pastOf rs (rootCube root) ≡ []
-  judged-none state h = known-none rs (rootCube root) which j judged-root state h
-
-  pub judged-past : (n : ℕ) → j ≡ Past n → pastOf rs (rootCube root) ≡ n ∷ []
-  judged-past n h = past-first rs (rootCube root) which j judged-root n h
-
 -- ---- a map that opens
 module _ (rs : List Record) (map : List ℕ) (opens : faultOf (hasFace rs) map ≡ []) where
   parts : (headerFault map ≡ []) × (leavesFault (hasFace rs) (rootOf map .d) 0 19 (leavesOf map) ≡ [])
@@ -206,18 +195,12 @@ module _ (rs : List Record) (root : Root) (p : Point) (h : Judgeable rs root p) 
   point-near-there q is = rw is (point-near root p (h .within) (h .inside))
 
   module _ (q : Cube) (is : q ≡ pointCube p) (f : ℕ) (j : Judged) (e : j ≡ judgedOf rs q f) where
-    judged : j ≡ judgedOf rs (pointCube p) f
-    judged = e ∙ ap (λ (k : Cube). judgedOf rs k f) is
-
     pub face-known : (state : State) (b : Bool) → j ≡ Known state → b ≡ isIn state → b ≡ faceHolds rs f p
     unfolding faceHolds
-    face-known state b k g =
-        cases rs (pointCube p) f j judged
-        (λ n i. g ∙ ap isIn (let z : state ≡ getD (entries (pointCube p) rs) f blank .state = cc in z))
-        (λ n s i. let z : _≡_ {A = ℕ} 0 1 = cc in absurd (omega arith))
+    face-known state b k g = g ∙ ap isIn (known-is rs (pointCube p) q is f j e state k)
 
     pub face-past : {A : Type 0} (n : ℕ) → j ≡ Past n → A
-    face-past n k = let z : [] ≡ n ∷ [] = sym none-there ∙ past-first rs (pointCube p) f j judged n k in let y : _≡_ {A = ℕ} 0 1 = cc in absurd (omega arith)
+    face-past n k = let z : [] ≡ n ∷ [] = sym none-there ∙ past-first rs (pointCube p) q is f j e n k in let y : _≡_ {A = ℕ} 0 1 = cc in absurd (omega arith)
 
 -- ---- what a terminal leaf answers
 module _ (rs : List Record) (l : Leaf) (p : Point) where

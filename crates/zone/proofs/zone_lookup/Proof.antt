@@ -1,3 +1,4 @@
+-- `zone::zone_lookup` meets its contract: it is `lookup::lookup` with the reply by number. Assumes nothing.
 use mathlib.Core.Path.{ap}
 use mir.Facts.{toZ-ofZ}
 use Rattle.zone.specs.Replies.{lookupByNumber, zoneLookupOf}

@@ -4,7 +4,8 @@ use mathlib.Core.Path.{sym, _∙_}
 use borrow.Author.Tests.{not-true, not-false}
 use Rattle.cube.proofs.Limits.{limits-sizes}
 use Rattle.cube.proofs.Cubes.{root-near, near-fewer}
-use Rattle.build.proofs.Outcomes.{judged-none, judged-over, outside, over-root}
+use Rattle.colour.proofs.Told.{known-none, past-first}
+use Rattle.build.proofs.Outcomes.{outside, over-root}
 use borrow.Author.Needs.{needs}
 use Rattle.build.proofs.building.over_root.Statement.{statement}
 use Rattle.build.proofs.building.over_root.Tie as tie
@@ -30,7 +31,7 @@ enum-told c = search needs
 
 over-smaller-requires : tie.Need-over-smaller-requires
 over-smaller-requires c κs =
-    (c .before .before .before .before .before .before .before .before .before .pre, ((sym (c .before .before .before .before .before .before .is-within .ensures) ∙ not-false _ (c .before .before .before .before .before .if1 .left)), judged-none _ _ _ (c .before .before .before .before .cube .ensures) _ _ (c .before .before .before .judge .ensures) _ (c .before .enum-told .given .1)))
+    (c .before .before .before .before .before .before .before .before .before .pre, ((sym (c .before .before .before .before .before .before .is-within .ensures) ∙ not-false _ (c .before .before .before .before .before .if1 .left)), known-none _ _ _ (c .before .before .before .before .cube .ensures) _ _ (c .before .before .before .judge .ensures) _ (c .before .enum-told .given .1)))
 
 same-length : tie.Need-same-length
 same-length c = search needs
@@ -43,7 +44,7 @@ enum-known-n c = search needs
 
 returns-3 : tie.Need-returns-3
 returns-3 c =
-    over-root _ _ _ (sym (c .before .before .before .before .before .before .is-within .ensures) ∙ not-false _ (c .before .before .before .before .before .if1 .left)) _ (judged-over _ _ _ (c .before .before .before .before .cube .ensures) _ _ (c .before .before .before .judge .ensures) _ (c .before .n .given .1))
+    over-root _ _ _ (sym (c .before .before .before .before .before .before .is-within .ensures) ∙ not-false _ (c .before .before .before .before .before .if1 .left)) _ (past-first _ _ _ (c .before .before .before .before .cube .ensures) _ _ (c .before .before .before .judge .ensures) _ (c .before .n .given .1))
 
 pub over-root-spec : {M : Type 1} → statement M
 over-root-spec =

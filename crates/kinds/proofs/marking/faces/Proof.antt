@@ -1,3 +1,4 @@
+-- `kinds::marking::faces` meets its contract. The invariant is `Marking`: so many records are done, and the list has the mark of each. Assumes nothing.
 use Prim.Native.Nat.{_-_}
 use borrow.Author.Needs.{needs}
 use native.Mathlib.Omega.{arith}

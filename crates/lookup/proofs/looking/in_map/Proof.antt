@@ -1,3 +1,4 @@
+-- `lookup::looking::in_map` meets its contract: the bytes before the leaves come before the leaves. Assumes nothing.
 use Rattle.lookup.proofs.Steps.{good-header, bad-header}
 use borrow.Author.Needs.{needs}
 use Rattle.lookup.proofs.looking.in_map.Statement.{statement}

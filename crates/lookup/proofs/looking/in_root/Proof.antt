@@ -1,5 +1,7 @@
+-- `lookup::looking::in_root` meets its contract: the limit over the root, then the point, then its leaf. Assumes nothing.
 use Rattle.cube.proofs.Limits.{limits-sizes}
-use Rattle.lookup.proofs.Steps.{opened-within, opened-near, leaf-room, judged-none, judged-past, over-root, not-in-root, judgeable, answered}
+use Rattle.colour.proofs.Told.{known-none, past-first}
+use Rattle.lookup.proofs.Steps.{opened-within, opened-near, leaf-room, over-root, not-in-root, judgeable, answered}
 use borrow.Author.Needs.{needs}
 use Rattle.lookup.proofs.looking.in_root.Statement.{statement}
 use Rattle.lookup.proofs.looking.in_root.Tie as tie
@@ -28,22 +30,22 @@ leaf-at-requires c κs =
 
 answer-requires : tie.Need-answer-requires
 answer-requires c κs =
-    (c .before .before .before .before .before .before .before .before .before .before .pre .0, judgeable _ _ (c .before .before .before .before .before .before .before .before .before .before .pre .1 .0) _ (c .before .before .before .before .before .before .before .before .before .before .pre .1 .1 .0) _ (judged-none _ _ _ (c .before .before .before .before .before .before .before .cube .ensures) _ _ (c .before .before .before .before .before .before .judge .ensures) _ (c .before .before .before .before .enum-told .given .1)) _ (c .before .before .before .cube2 .ensures) _ (c .before .before .holds .ensures) (c .before .if1 .taken))
+    (c .before .before .before .before .before .before .before .before .before .before .pre .0, judgeable _ _ (c .before .before .before .before .before .before .before .before .before .before .pre .1 .0) _ (c .before .before .before .before .before .before .before .before .before .before .pre .1 .1 .0) _ (known-none _ _ _ (c .before .before .before .before .before .before .before .cube .ensures) _ _ (c .before .before .before .before .before .before .judge .ensures) _ (c .before .before .before .before .enum-told .given .1)) _ (c .before .before .before .cube2 .ensures) _ (c .before .before .holds .ensures) (c .before .if1 .taken))
 
 returns : tie.Need-returns
 returns c =
-    answered _ _ (c .before .before .before .before .before .before .before .before .before .before .before .pre .1 .0) _ (c .before .before .before .before .before .before .before .before .before .before .before .pre .1 .1 .0) _ (judged-none _ _ _ (c .before .before .before .before .before .before .before .before .cube .ensures) _ _ (c .before .before .before .before .before .before .before .judge .ensures) _ (c .before .before .before .before .before .enum-told .given .1)) _ (c .before .before .before .before .cube2 .ensures) _ (c .before .before .before .holds .ensures) (c .before .before .if1 .taken) _ _ _ (c .before .before .before .before .before .before .before .before .before .before .before .pre .1 .1 .1) (c .before .leaf-at .ensures) (c .answer .ensures)
+    answered _ _ (c .before .before .before .before .before .before .before .before .before .before .before .pre .1 .0) _ (c .before .before .before .before .before .before .before .before .before .before .before .pre .1 .1 .0) _ (known-none _ _ _ (c .before .before .before .before .before .before .before .before .cube .ensures) _ _ (c .before .before .before .before .before .before .before .judge .ensures) _ (c .before .before .before .before .before .enum-told .given .1)) _ (c .before .before .before .before .cube2 .ensures) _ (c .before .before .before .holds .ensures) (c .before .before .if1 .taken) _ _ _ (c .before .before .before .before .before .before .before .before .before .before .before .pre .1 .1 .1) (c .before .leaf-at .ensures) (c .answer .ensures)
 
 returns-2 : tie.Need-returns-2
 returns-2 c =
-    not-in-root _ _ (c .before .before .before .before .before .before .before .before .before .pre .1 .0) _ (c .before .before .before .before .before .before .before .before .before .pre .1 .1 .0) _ (judged-none _ _ _ (c .before .before .before .before .before .before .cube .ensures) _ _ (c .before .before .before .before .before .judge .ensures) _ (c .before .before .before .enum-told .given .1)) _ (c .before .before .cube2 .ensures) _ (c .before .holds .ensures) (c .if1 .left)
+    not-in-root _ _ (c .before .before .before .before .before .before .before .before .before .pre .1 .0) _ (c .before .before .before .before .before .before .before .before .before .pre .1 .1 .0) _ (known-none _ _ _ (c .before .before .before .before .before .before .cube .ensures) _ _ (c .before .before .before .before .before .judge .ensures) _ (c .before .before .before .enum-told .given .1)) _ (c .before .before .cube2 .ensures) _ (c .before .holds .ensures) (c .if1 .left)
 
 enum-known-n : tie.Need-enum-known-n
 enum-known-n c = search needs
 
 returns-3 : tie.Need-returns-3
 returns-3 c =
-    over-root _ _ (c .before .before .before .before .before .before .before .pre .1 .0) _ (c .before .before .before .before .before .before .before .pre .1 .1 .0) _ _ (judged-past _ _ _ (c .before .before .before .before .cube .ensures) _ _ (c .before .before .before .judge .ensures) _ (c .before .n .given .1))
+    over-root _ _ (c .before .before .before .before .before .before .before .pre .1 .0) _ (c .before .before .before .before .before .before .before .pre .1 .1 .0) _ _ (past-first _ _ _ (c .before .before .before .before .cube .ensures) _ _ (c .before .before .before .judge .ensures) _ (c .before .n .given .1))
 
 pub in-root-spec : {M : Type 1} → statement M
 in-root-spec =

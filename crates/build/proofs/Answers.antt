@@ -1,5 +1,5 @@
 -- What a map that building answers tells: its length is that of a map, it has room in the lent buffer, and its root is in limits. Assumes nothing.
-use mathlib.Core.Path.{_≡_, refl, sym, ap, _∙_}
+use mathlib.Core.Path.{_≡_, refl, ap, _∙_}
 use mathlib.Core.Bool.{Bool, true, false, true≢false}
 use mathlib.Core.List.{List, [], _∷_, _++_}
 use Prim.Native.Nat.{ℕ, _≤_}
@@ -16,11 +16,10 @@ use Rattle.sheet.specs.Check.{checkOf}
 use Rattle.cube.specs.declared.Root.{Root}
 use Rattle.cube.specs.Limits.{inLimits}
 use Rattle.cube.specs.Cubes.{rootCube}
-use Rattle.zonemap.proofs.Bytes.{map-length}
 use Rattle.build.specs.declared.Reply.{Reply}
 use Rattle.build.specs.declared.Reply.the-variants.{Done, Sheet, Limits, OverRoot, OverSmaller, Short}
 use Rattle.colour.specs.Entries.{pastOf}
-use Rattle.build.specs.Solid.{leavesOf, pastsOf}
+use Rattle.build.specs.Solid.{pastsOf}
 use Rattle.integers.specs.First.{onFirst}
 use Rattle.build.specs.Build.{Outcome, outcome, builtMap, storedOf, solidOf, onSheet, buildOf, numberOf}
 
@@ -83,9 +82,3 @@ module _ (s : List ℕ) (root : Root) (out after : List ℕ) (n : ℕ) where
   pub done-made : outcome (Done n) after ≡ buildOf s root out → ((k : ℕ) × (checkOf s ≡ Good k)) × Made n out after (recordsOf s) root
   unfolding buildOf
   done-made e = sheet-made (checkOf s) refl e
-
-  pub map-made : (r : Reply) → outcome r after ≡ buildOf s root out → r ≡ Done n → (19 ≤ n) × (n ≤ length out) × (inLimits root ≡ true)
-  unfolding builtMap
-  map-made r e t =
-      let m = done-made (ap (λ (r : Reply). outcome r after) (sym t) ∙ e) .1 in
-      (omega (arith, m .size, map-length root (leavesOf (recordsOf s) (root .d) (rootCube root))), m .room, m .within)

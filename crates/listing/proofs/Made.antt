@@ -1,29 +1,41 @@
--- A map that building answers can be listed. Assumes nothing.
-use mathlib.Core.Path.{_≡_, subst}
-use mathlib.Core.Bool.{true}
-use mathlib.Core.List.{List}
+-- A map that building answers opens. Assumes nothing.
+use mathlib.Core.Path.{_≡_, sym, ap, _∙_}
+use mathlib.Core.Bool.{Bool}
+use mathlib.Core.List.{List, []}
 use Prim.Native.Nat.{ℕ, _≤_}
 use native.Mathlib.Omega.{arith}
-use lib.ListN.{length}
+use lib.ListN.{length, take, drop, length-append}
+use lib.Seq.{length-take-le, take-append-seam}
 use mir.Syntax.{w32}
 use mir.Val.{SFits, toZ, ofZ}
 use mir.Facts.{toZ-ofZ}
+use Rattle.sheet.specs.Records.{recordsOf}
 use Rattle.cube.specs.declared.Root.{Root}
-use Rattle.cube.specs.Limits.{inLimits}
+use Rattle.zonemap.specs.Opening.{rootOf, faultOf}
 use Rattle.build.specs.declared.Reply.{Reply}
 use Rattle.build.specs.declared.Reply.the-variants.{Done}
-use Rattle.build.specs.Build.{outcome, buildOf}
-use Rattle.build.proofs.Answers.{map-made}
+use Rattle.build.specs.Build.{outcome, builtMap, buildOf}
+use Rattle.build.proofs.Answers.{Made, done-made}
+use Rattle.roundtrip.proofs.Built.{built-opens, built-root}
 
 -- the root as its fields are handed to `build`, read back from their bits
 abbrev handed : Root → Root
 handed r = record { x = toZ w32 (ofZ w32 (r .x)); y = toZ w32 (ofZ w32 (r .y)); z = toZ w32 (ofZ w32 (r .z)); k = r .k; d = r .d }
 
-same-root : (r : Root) → SFits w32 (r .x) → SFits w32 (r .y) → SFits w32 (r .z) → handed r ≡ r
-same-root r x y z = rw (toZ-ofZ x, toZ-ofZ y, toZ-ofZ z)
+module _ (s : List ℕ) (r : Root) (out after : List ℕ) (reply : Reply) (n : ℕ) (x : SFits w32 (r .x)) (y : SFits w32 (r .y)) (z : SFits w32 (r .z)) (e : outcome reply after ≡ buildOf s (handed r) out) (t : reply ≡ Done n) where
+  abbrev map : List ℕ
+  map = builtMap (recordsOf s) r
 
-pub made : (s : List ℕ) (r : Root) (out after : List ℕ) (reply : Reply) (n : ℕ) →
-    SFits w32 (r .x) → SFits w32 (r .y) → SFits w32 (r .z) → outcome reply after ≡ buildOf s (handed r) out → reply ≡ Done n → length after ≡ length out → (19 ≤ n) × ((n ≤ length after) × (inLimits r ≡ true))
-made s r out after reply n x y z e t kept =
-    let m = map-made s (handed r) out after reply n e t in
-    (m .0, (omega (arith, m .1, kept), subst (λ (q : Root). inLimits q ≡ true) (same-root r x y z) (m .2)))
+  made : Made n out after (recordsOf s) r
+  made = rw (toZ-ofZ x, toZ-ofZ y, toZ-ofZ z) at (done-made s (handed r) out after n (ap (λ (q : Reply). outcome q after) (sym t) ∙ e) .1)
+
+  pub made-room : n ≤ length after
+  made-room = omega (arith, made .size, ap length (made .bytes), length-append map (drop (length map) out))
+
+  pub made-length : n ≡ length (take n after)
+  made-length = sym (length-take-le n after made-room)
+
+  pub made-opens : ((named : ℕ → Bool) × (faultOf named (take n after) ≡ [])) × (rootOf (take n after) ≡ r)
+  made-opens =
+      let whole : take n after ≡ map = rw (made .size, made .bytes) (take-append-seam map (drop (length map) out)) in
+      rw whole ((_, built-opens (recordsOf s) r (made .within)), built-root (recordsOf s) r (made .within))

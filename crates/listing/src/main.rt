@@ -1,12 +1,15 @@
 // The listing program: reads a root's X, Y, Z, k and d and a zone sheet from standard input, builds the zone map, and writes it as text.
 
 ghost use mathlib.Core.Path.{_≡_};
-ghost use mathlib.Core.Bool.{true};
-ghost use Prim.Native.Nat.{_*_, _≤_, _^_};
+ghost use mathlib.Core.Bool.{Bool, true};
+ghost use mathlib.Core.List.{[]};
+ghost use Prim.Native.Nat.{ℕ, _+_, _≤_, _^_};
 ghost use lib.ListN.{length};
 ghost use Rattle.cube.specs.Limits.{inLimits};
+ghost use Rattle.zonemap.specs.Opening.{rootOf, sizeOf, faultOf};
 use build::Reply;
 use cube::Root;
+use zonemap::Leaf;
 
 // Where the sheet begins in the input, and where the leaves begin in a map.
 const SHEET_FROM: usize = 14;
@@ -56,15 +59,15 @@ fn list(s: &[u8])
         refuse(reply.code(), reply.number());
         return;
     };
-    answered(&map, n, root);
+    answered(&map[..n], root);
 }
 
-// Writes the map that stands in the first n bytes.
-fn answered(map: &[u8], n: usize, root: Root)
-    requires { ⌜ 19 ≤ n ⌝ ∗ ⌜ n ≤ length (now map) ⌝ ∗ ⌜ inLimits root ≡ true ⌝ }
+// Writes a map of this root that opens, whichever faces its leaves may name.
+fn answered(map: &[u8], root: Root)
+    requires { ⌜ ((named : ℕ → Bool) × (faultOf named (now map) ≡ [])) ⌝ ∗ ⌜ rootOf (now map) ≡ root ⌝ }
 {
-    head(root, ((n - LEAVES_FROM) / 3) as i64);
-    leaves(&map[LEAVES_FROM..n], root);
+    head(root, ((map.len() - LEAVES_FROM) / 3) as i64);
+    leaves(map, root);
 }
 
 // Writes the first line: the root, the depth and the number of leaves.
@@ -81,47 +84,34 @@ fn head(root: Root, leaves: i64) {
 }
 
 // Writes a line a leaf; three bytes are a leaf. The place of a leaf is the sum of 8^(d - level) over the earlier leaves.
-fn leaves(bytes: &[u8], root: Root)
-    requires { ⌜ inLimits root ≡ true ⌝ }
+fn leaves(map: &[u8], root: Root)
+    requires { ⌜ ((named : ℕ → Bool) × (faultOf named (now map) ≡ [])) ⌝ ∗ ⌜ rootOf (now map) ≡ root ⌝ }
 {
     let mut place = 0;
-    for i in 0..bytes.len() / 3 {
-        place = leaf(
-            root,
-            place,
-            bytes[3 * i],
-            bytes[3 * i + 1],
-            bytes[3 * i + 2],
-        );
+    let mut at = LEAVES_FROM;
+    while at < map.len() {
+        place = leaf(root, place, zonemap::leaf_at(map, at));
+        at += 3;
     }
 }
 
 // Writes the leaf at a place, and answers the place after it.
-fn leaf(root: Root, place: u32, level: u8, class: u8, face: u8) -> u32
-    requires { ⌜ inLimits root ≡ true ⌝ }
+fn leaf(root: Root, place: u32, leaf: Leaf) -> u32
+    requires { ⌜ inLimits root ≡ true ⌝ ∗ ⌜ leaf .level ≤ root .d ⌝ ∗ ⌜ place + sizeOf (root .d) leaf ≤ 8 ^ root .d ⌝ }
+    ensures { λ r. ⌜ r ≡ place + sizeOf (root .d) leaf ⌝ }
 {
-    // Each leaf of a map passes this test. It is made so that no proof here needs the theory of maps.
-    if level <= root.d && place < 1073741824 {
-        let cube = root.cube_at(place, level);
-        line(
-            level as i64,
-            cube.x as i64,
-            cube.y as i64,
-            cube.z as i64,
-            class as i64,
-            face as i64,
-        );
-        return place + size(root.d - level);
-    }
-    place
-}
-
-// The smallest cubes in a cube with n levels below it: 8^n, which is 2^(3 n).
-fn size(n: u8) -> u32
-    requires { ⌜ n ≤ 10 ⌝ }
-    ensures { λ r. ⌜ r ≡ 2 ^ (3 * n) ⌝ }
-{
-    1u32 << (3 * n)
+    // 8^n is 2^(3 n).
+    let next = place + (1u32 << (3 * (root.d - leaf.level)));
+    let cube = root.cube_at(place, leaf.level);
+    line(
+        leaf.level as i64,
+        cube.x as i64,
+        cube.y as i64,
+        cube.z as i64,
+        leaf.class as i64,
+        leaf.face as i64,
+    );
+    next
 }
 
 // Writes a line of six numbers.

@@ -1,9 +1,27 @@
 -- `listing::leaf` meets its contract: the casts lose nothing, and the place after a leaf fits. Assumes nothing.
 use Rattle.text.proofs.Signs.{widened}
-use Rattle.listing.proofs.Places.{levels-below, next-fits}
+use Rattle.listing.proofs.Opened.{leaf-few, leaf-size, leaf-room}
+use native.Mathlib.Omega.{arith}
 use borrow.Author.Needs.{needs}
 use Rattle.listing.proofs.leaf.Statement.{statement}
 use Rattle.listing.proofs.leaf.Tie as tie
+
+sub-next : tie.Need-sub-next
+sub-next c = search needs
+
+mul-next : tie.Need-mul-next
+mul-next c =
+    record { fits = omega (arith, leaf-few _ (c .before .before .pre .0) (c .before .before .args .leaf)) }
+
+cast-next : tie.Need-cast-next
+cast-next c = search needs
+
+shl-next : tie.Need-shl-next
+shl-next c = omega (arith, leaf-few _ (c .before .before .pre .0) (c .before .before .args .leaf))
+
+add-next : tie.Need-add-next
+add-next c =
+    record { fits = omega (arith, leaf-size _ (c .before .before .pre .0) (c .before .before .args .leaf), leaf-room _ (c .before .before .pre .0) (c .before .before .args .leaf) _ (c .before .before .pre .1 .1)) }
 
 cube-at-requires : tie.Need-cube-at-requires
 cube-at-requires c κs = search needs
@@ -29,24 +47,19 @@ cast-line-6 c = search needs
 line-requires : tie.Need-line-requires
 line-requires c κs = search needs
 
-size-requires : tie.Need-size-requires
-size-requires c κs =
-    levels-below _ (c .before .before .before .before .before .before .before .before .before .before .before .before .pre) _
-
-add-result : tie.Need-add-result
-add-result c =
-    next-fits _ (c .before .before .before .before .before .before .before .before .before .before .before .before .before .pre) _ _ _ (c .before .before .before .before .before .before .before .before .before .before .if2 .taken) (c .size .ensures)
-
 returns : tie.Need-returns
-returns c = search needs
-
-returns-2 : tie.Need-returns-2
-returns-2 c = search needs
+returns c =
+    omega (arith, leaf-size _ (c .before .before .before .before .before .before .before .before .before .before .before .before .before .pre .0) (c .before .before .before .before .before .before .before .before .before .before .before .before .before .args .leaf))
 
 pub leaf-spec : {M : Type 1} → statement M
 leaf-spec =
     tie.close
     (tie.spec
+    sub-next
+    mul-next
+    cast-next
+    shl-next
+    add-next
     cube-at-requires
     cast-line
     cast-line-2
@@ -55,7 +68,4 @@ leaf-spec =
     cast-line-5
     cast-line-6
     line-requires
-    size-requires
-    add-result
-    returns
-    returns-2)
+    returns)

@@ -1,53 +1,38 @@
--- `listing::leaves` is safe and ends: every leaf has its three bytes. Assumes nothing.
+-- `listing::leaves` is safe and ends: the leaves that are left run on from `place`. Assumes nothing.
+use Rattle.listing.proofs.Opened.{Left, left-start, left-bytes, left-level, left-room, left-on}
 use borrow.Author.Needs.{needs}
-use Prim.Native.Nat.{_-_, _≤_}
+use native.Mathlib.Omega.{arith}
+use Prim.Native.Nat.{_-_}
+use lib.ListN.{length}
 use Rattle.listing.proofs.leaves.Statement.{statement}
 use Rattle.listing.proofs.leaves.Tie as tie
 
 abbrev Inv-loop : tie.InvT-loop
-Inv-loop bytes root place₀ i₀ i-end place i = i ≤ i-end
+Inv-loop map root place₀ at₀ place at = Left map root place at
 
 abbrev μ-loop : tie.MeasureT-loop
-μ-loop bytes root place₀ i₀ i-end place i = i-end - i
+μ-loop map root place₀ at₀ place at = length map - at
 
 loop-holds : tie.Need-loop-holds Inv-loop μ-loop
-loop-holds c = search needs
+loop-holds c = left-start _ (c .before .pre .0) _ (c .before .pre .1)
 
-mul-leaf : tie.Need-mul-leaf Inv-loop μ-loop
-mul-leaf c = search needs
-
-shared-slice-read-leaf : tie.Need-shared-slice-read-leaf Inv-loop μ-loop
-shared-slice-read-leaf c = search needs
-
-mul-leaf-2 : tie.Need-mul-leaf-2 Inv-loop μ-loop
-mul-leaf-2 c = search needs
-
-add-leaf : tie.Need-add-leaf Inv-loop μ-loop
-add-leaf c = search needs
-
-shared-slice-read-leaf-2 : tie.Need-shared-slice-read-leaf-2 Inv-loop μ-loop
-shared-slice-read-leaf-2 c = search needs
-
-mul-leaf-3 : tie.Need-mul-leaf-3 Inv-loop μ-loop
-mul-leaf-3 c = search needs
-
-add-leaf-2 : tie.Need-add-leaf-2 Inv-loop μ-loop
-add-leaf-2 c = search needs
-
-shared-slice-read-leaf-3 : tie.Need-shared-slice-read-leaf-3 Inv-loop μ-loop
-shared-slice-read-leaf-3 c = search needs
+leaf-at-requires : tie.Need-leaf-at-requires Inv-loop μ-loop
+leaf-at-requires c κs = left-bytes _ _ _ _ (c .before .loop .inv) (c .loop-test .taken)
 
 leaf-requires : tie.Need-leaf-requires Inv-loop μ-loop
-leaf-requires c κs = search needs
+leaf-requires c κs =
+    (c .before .before .loop .inv .within, (left-level _ _ _ _ (c .before .before .loop .inv) (c .before .loop-test .taken) _ (c .leaf-at .ensures), left-room _ _ _ _ (c .before .before .loop .inv) (c .before .loop-test .taken) _ (c .leaf-at .ensures)))
 
-add-i : tie.Need-add-i Inv-loop μ-loop
-add-i c = search needs
+add-at : tie.Need-add-at Inv-loop μ-loop
+add-at c =
+    record { fits = omega (arith, left-bytes _ _ _ _ (c .before .before .before .loop .inv) (c .before .before .loop-test .taken)) }
 
 loop-less : tie.Need-loop-less Inv-loop μ-loop
-loop-less c = search needs
+loop-less c = omega (arith, c .before .before .loop-test .taken)
 
 loop-again : tie.Need-loop-again Inv-loop μ-loop
-loop-again c = search needs
+loop-again c =
+    left-on _ _ _ _ (c .before .before .before .loop .inv) (c .before .before .loop-test .taken) _ (c .before .leaf-at .ensures) _ (c .leaf .ensures)
 
 returns : tie.Need-returns Inv-loop μ-loop
 returns c = search needs
@@ -59,16 +44,9 @@ leaves-spec =
     Inv-loop
     μ-loop
     loop-holds
-    mul-leaf
-    shared-slice-read-leaf
-    mul-leaf-2
-    add-leaf
-    shared-slice-read-leaf-2
-    mul-leaf-3
-    add-leaf-2
-    shared-slice-read-leaf-3
+    leaf-at-requires
     leaf-requires
-    add-i
+    add-at
     loop-less
     loop-again
     returns)

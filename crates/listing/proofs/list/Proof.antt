@@ -1,5 +1,5 @@
--- `listing::list` meets its contract: a map that building answers can be listed. Assumes nothing.
-use Rattle.listing.proofs.Made.{made}
+-- `listing::list` meets its contract: a map that building answers opens. Assumes nothing.
+use Rattle.listing.proofs.Made.{made-room, made-length, made-opens}
 use borrow.Author.Needs.{needs}
 use Rattle.listing.proofs.list.Statement.{statement}
 use Rattle.listing.proofs.list.Tie as tie
@@ -37,12 +37,17 @@ refuse-requires c κs = search needs
 returns : tie.Need-returns
 returns c = search needs
 
+array-share-prefix-map : tie.Need-array-share-prefix-map
+array-share-prefix-map c =
+    made-room _ (c .before .before .before .before .before .before .before .before .before .before .root-of .result) _ _ _ _ (search needs) (search needs) (search needs) (c .before .before .before .before .build .ensures) (c .before .reply .given .1)
+
 slice-aggregate-answered : tie.Need-slice-aggregate-answered
-slice-aggregate-answered c = search needs
+slice-aggregate-answered c =
+    made-length _ (c .before .before .before .before .before .before .before .before .before .before .before .root-of .result) _ _ _ _ (search needs) (search needs) (search needs) (c .before .before .before .before .before .build .ensures) (c .before .before .reply .given .1)
 
 answered-requires : tie.Need-answered-requires
 answered-requires c κs =
-    made _ _ _ _ _ _ (search needs) (search needs) (search needs) (c .before .before .before .before .before .build .ensures) (c .before .before .reply .given .1) (c .before .before .before .before .before .build .kept .1 .1 .1 .1 .1 .1 .0)
+    made-opens _ (c .before .before .before .before .before .before .before .before .before .before .before .root-of .result) _ _ _ _ (search needs) (search needs) (search needs) (c .before .before .before .before .before .build .ensures) (c .before .before .reply .given .1)
 
 returns-2 : tie.Need-returns-2
 returns-2 c = search needs
@@ -62,6 +67,7 @@ list-spec =
     number-requires
     refuse-requires
     returns
+    array-share-prefix-map
     slice-aggregate-answered
     answered-requires
     returns-2)

@@ -1,0 +1,75 @@
+-- A map that opens can be listed: each leaf is of a level that the root has, and ends in the root. Assumes nothing.
+use mathlib.Core.Path.{_≡_, refl}
+use mathlib.Core.Bool.{Bool, true}
+use mathlib.Core.List.{List, [], _∷_}
+use Prim.Native.Nat.{ℕ, suc, _+_, _-_, _*_, _/_, _%_, _^_, _≤_, _<_}
+use native.Mathlib.Omega.{arith}
+use lib.ListN.{length}
+use Rattle.integers.specs.First.{onFirst}
+use Rattle.cube.specs.declared.Root.{Root}
+use Rattle.cube.specs.Limits.{inLimits}
+use Rattle.cube.proofs.Cubes.{at-deep}
+use Rattle.zonemap.specs.declared.Leaf.{Leaf}
+use Rattle.zonemap.specs.Opening.{rootOf, leafIn, leavesIn, leavesFrom, leavesOf, sizeOf, leavesFault, headerFault, faultOf}
+use Rattle.zonemap.proofs.Powers.{power-below, shifted}
+use Rattle.zonemap.proofs.Runs.{Run, Fine, opens-run, one-fault, good-level, good-place}
+use Rattle.zonemap.proofs.Found.{header-sizes}
+
+-- ---- one leaf
+module _ (r : Root) (e : inLimits r ≡ true) (l : Leaf) where
+  pub leaf-few : r .d - l .level ≤ 10
+  leaf-few = omega (arith, at-deep r e)
+
+  pub leaf-size : 1 * 2 ^ (3 * (r .d - l .level)) % 4294967296 ≡ sizeOf (r .d) l
+  leaf-size = shifted (r .d - l .level) leaf-few
+
+  pub leaf-room : (place : ℕ) → place + sizeOf (r .d) l ≤ 8 ^ r .d → place + sizeOf (r .d) l ≤ 2 ^ 30
+  leaf-room place h = omega (arith, power-below (r .d) (at-deep r e))
+
+-- ---- the leaves that are left run on from `place`, to the end of the root
+pub record Left (s : List ℕ) (r : Root) (place at : ℕ) : Type 0 where
+  pub within : inLimits r ≡ true
+  pub beat : at % 3 ≡ 1
+  pub whole : length s % 3 ≡ 1
+  pub named : ℕ → Bool
+  pub run : Run (Fine named (r .d)) (r .d) place (leavesFrom s at) (8 ^ r .d)
+
+first-none : (ns rest : List ℕ) → onFirst ns (λ at. at ∷ []) rest ≡ [] → (ns ≡ []) × (rest ≡ [])
+first-none [] rest e = (refl, e)
+first-none (n ∷ ns) rest e = absurd (one-fault n e)
+
+module _ (s : List ℕ) (opens : (named : ℕ → Bool) × (faultOf named s ≡ [])) where
+  parts : (headerFault s ≡ []) × (leavesFault (opens .0) (rootOf s .d) 0 19 (leavesOf s) ≡ [])
+  unfolding faultOf
+  parts = first-none (headerFault s) _ (opens .1)
+
+  pub opened-sizes : (19 ≤ length s) × (length s % 3 ≡ 1) × (inLimits (rootOf s) ≡ true)
+  opened-sizes = header-sizes s (parts .0)
+
+  pub left-start : (r : Root) → rootOf s ≡ r → Left s r 0 19
+  left-start r same = record {
+    within = rw same at (opened-sizes .2);
+    beat = refl;
+    whole = opened-sizes .1;
+    named = opens .0;
+    run = rw same at (opens-run (opens .0) (rootOf s .d) 0 19 (leavesOf s) (parts .1));
+  }
+
+module _ (s : List ℕ) (r : Root) (place at : ℕ) (i : Left s r place at) (h : at < length s) where
+  pub left-bytes : at + 3 ≤ length s
+  left-bytes = omega (arith, i .beat, i .whole)
+
+  -- l is what `leaf_at` answered
+  module _ (l : Leaf) (e : l ≡ leafIn s at) where
+    next : Fine (i .named) (r .d) place l × Run (Fine (i .named) (r .d)) (r .d) (place + sizeOf (r .d) l) (leavesFrom s (at + 3)) (8 ^ r .d)
+    unfolding Run leavesIn
+    next = let n : (length s - at) / 3 ≡ suc ((length s - (at + 3)) / 3) = omega (arith, i .beat, i .whole) in rw e (rw n at (i .run))
+
+    pub left-level : l .level ≤ r .d
+    left-level = good-level (i .named) (r .d) place l (next .0)
+
+    pub left-room : place + sizeOf (r .d) l ≤ 8 ^ r .d
+    left-room = good-place (i .named) (r .d) place l (next .0) .1
+
+    pub left-on : (p : ℕ) → p ≡ place + sizeOf (r .d) l → Left s r p (at + 3)
+    left-on p same = record { within = i .within; beat = omega (arith, i .beat); whole = i .whole; named = i .named; run = rw same (next .1) }

@@ -8,6 +8,7 @@ use native.Mathlib.Omega.{arith}
 use borrow.Author.Tests.{lt-ltb, le-ltb}
 use lib.ListN.{length}
 use lib.Seq.{sets, sets-eq, length-sets}
+use Rattle.integers.proofs.Stores.{sets-append}
 use Rattle.sheet.specs.declared.Record.{Record}
 use Rattle.sheet.specs.declared.Refusal.{Refusal}
 use Rattle.sheet.specs.declared.Checked.{Checked}
@@ -22,7 +23,7 @@ use Rattle.cube.proofs.Limits.{limits-sizes}
 use Rattle.colour.specs.Entries.{pastOf}
 use Rattle.zonemap.specs.declared.Leaf.{Leaf}
 use Rattle.zonemap.specs.Map.{headerOf, leavesBytes, mapOf}
-use Rattle.zonemap.proofs.Bytes.{header-length, map-length, sets-append}
+use Rattle.zonemap.proofs.Bytes.{header-length, map-length}
 use Rattle.build.specs.declared.Counted.{Counted}
 use Rattle.build.specs.declared.Counted.the-variants.{Leaves, Past as PastIn}
 use Rattle.build.specs.declared.Reply.the-variants.{Done, Sheet, Limits, OverRoot, OverSmaller, Short}

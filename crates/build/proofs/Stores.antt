@@ -6,6 +6,7 @@ use Prim.Native.Nat.{ℕ, suc, _+_, _-_, _*_, _≤_, _<_}
 use native.Mathlib.Omega.{arith}
 use lib.ListN.{length}
 use lib.Seq.{sets, length-sets}
+use Rattle.integers.proofs.Stores.{sets-append}
 use Rattle.sheet.specs.declared.Record.{Record}
 use Rattle.cube.specs.declared.Cube.{Cube}
 use Rattle.cube.specs.Cubes.{childOf}
@@ -14,7 +15,7 @@ use Rattle.colour.specs.declared.Judged.{Judged}
 use Rattle.colour.specs.Entries.{judgedOf, pastOf}
 use Rattle.zonemap.specs.declared.Leaf.{Leaf}
 use Rattle.zonemap.specs.Map.{leafBytes, leavesBytes}
-use Rattle.zonemap.proofs.Bytes.{leaves-bytes-length, leaves-bytes-append, sets-append}
+use Rattle.zonemap.proofs.Bytes.{leaves-bytes-length, leaves-bytes-append}
 use Rattle.build.specs.Tree.{upto}
 use Rattle.build.specs.Solid.{leafBy, leafOf, leavesOf, pastsOf}
 use Rattle.build.specs.Counting.{grayJudged, shownOf}

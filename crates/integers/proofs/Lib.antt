@@ -3,3 +3,4 @@ pub mod Ring
 pub mod Order
 pub mod Least
 pub mod Machine
+pub mod Stores

@@ -1,1 +1,1 @@
-// The exact whole numbers, for the contracts and the proofs of other crates: see specs/ and proofs/. There is no code.
+// What the contracts and the proofs of other crates share, the exact whole numbers above all: see specs/ and proofs/. There is no code.

@@ -2,12 +2,13 @@
 use mathlib.Core.Path.{_≡_, refl, sym, ap, _∙_}
 use mathlib.Core.Bool.{true, false}
 use mathlib.Core.List.{List, [], _∷_, _++_}
-use Prim.Native.Nat.{ℕ, suc, _+_, _/_, _%_, _≤_, _<_}
+use Prim.Native.Nat.{ℕ, _+_, _/_, _%_, _≤_, _<_}
 use native.Mathlib.Omega.{arith}
 use lib.IntN.{ℤ, pos, natAbs}
 use lib.ListN.{length, length-append, set, length-set}
-use lib.Seq.{sets, length-sets, length-take-le, append-snoc}
+use lib.Seq.{length-sets, length-take-le, append-snoc}
 use lib.Signed.{ltZ}
+use Rattle.integers.proofs.Stores.{sets-append}
 use mir.Syntax.{w64}
 use mir.Val.{SFits, toZ, ofZ}
 use mir.Facts.{toZ-ofZ}
@@ -16,12 +17,7 @@ use Rattle.text.specs.Text.{digit, decimalOf, signedText, lineOf, Puts}
 use Rattle.text.proofs.Digits.{one-digit, more-digits}
 use Rattle.text.proofs.Signs.{lessOne, plain-text, less-text, signed-length}
 
--- ---- two runs of stores, and what is put by them
-sets-append : (d : List ℕ) (i j : ℕ) (vs ws : List ℕ) → j ≡ i + length vs → sets (sets d i vs) j ws ≡ sets d i (vs ++ ws)
-sets-append d i j [] ws e = let k : j ≡ i = omega arith in rw k
-sets-append d i j (v ∷ vs) ws e = sets-append (set d i v) (suc i) j vs ws (omega arith)
-
--- one byte
+-- ---- what is put: one byte
 byte-put : (v at : ℕ) (d : List ℕ) → Puts (v ∷ []) at d (at + 1) (set d at v)
 byte-put v at d = record { ends = refl; bytes = refl }
 

@@ -5,6 +5,7 @@ use Prim.Native.Nat.{ℕ, suc, _+_, _*_, _≤_, _<_}
 use native.Mathlib.Omega.{arith}
 use lib.ListN.{length, set, length-set, length-append}
 use lib.Seq.{sets}
+use Rattle.integers.proofs.Stores.{sets-append}
 use mir.Syntax.{w32}
 use mir.Val.{SFits, toZ, ofZ}
 use mir.Facts.{toZ-ofZ}
@@ -37,12 +38,7 @@ pub map-length : (r : Root) (ls : List Leaf) → length (mapOf r ls) ≡ 19 + 3 
 unfolding mapOf
 map-length r ls = omega (arith, length-append (headerOf r (length ls)) (leavesBytes ls), header-length r (length ls), leaves-bytes-length ls)
 
--- ---- stores
-pub sets-append : (d : List ℕ) (i j : ℕ) (a b : List ℕ) → j ≡ i + length a → sets (sets d i a) j b ≡ sets d i (a ++ b)
-sets-append d i j [] b e = rw (let e' : j ≡ i = omega arith in e')
-sets-append d i j (x ∷ a) b e = sets-append (set d i x) (suc i) j a b (omega arith)
-
--- put_leaf
+-- ---- stores: put_leaf
 pub leaf-stored : (d : List ℕ) (at : ℕ) (l : Leaf) → set (set (set d at (l .level)) (at + 1) (l .class)) (at + 2) (l .face) ≡ sets d at (leafBytes l)
 unfolding leafBytes
 leaf-stored d at l =

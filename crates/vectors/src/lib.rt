@@ -1,0 +1,70 @@
+// Test lines: a label, a colon, the bytes of a vector in hexadecimal with spaces where they help the eye, and a line feed.
+
+ghost use Prim.Native.Nat.{_≤_, _<_};
+ghost use lib.ListN.{length};
+ghost use Rattle.io.specs.Counts.{Counts};
+
+// Of a line that was read: where the next one begins, and how many bytes its vector has.
+pub struct Line {
+    pub next: usize,
+    pub size: usize,
+}
+
+// Writes the label of the line at `at` with its colon, and puts its vector at the start of `vector`. Bytes of an earlier line may stand after it: the size says how many count.
+pub fn read_line(input: &[u8], at: usize, vector: &mut [u8]) -> Line
+    requires { ⌜ at < length (now input) ⌝ }
+    ensures { λ r. ⌜ at < r .next ⌝ }
+    ensures { λ r. ⌜ Counts (r .size) (now (vector .exit)) ⌝ }
+{
+    let digits = past(input, at + 1, b':');
+    let _label = io::write_all(1, &input[at..digits]);
+    let next = past(input, digits, b'\n');
+    let size = put_bytes(&input[digits..next], vector);
+    Line { next, size }
+}
+
+// The first place from `from` on that comes right after a byte `mark`; the end of the input where there is none.
+fn past(input: &[u8], from: usize, mark: u8) -> usize
+    requires { ⌜ 0 < from ⌝ ∗ ⌜ from ≤ length (now input) ⌝ }
+    ensures { λ r. ⌜ from ≤ r ⌝ }
+    ensures { λ r. ⌜ r ≤ length (now (input .entry)) ⌝ }
+{
+    let mut end = from;
+    while end < input.len() && input[end - 1] != mark {
+        end += 1;
+    }
+    end
+}
+
+// Puts the bytes of the digits at the start of `vector`, without those that it has no room for, and answers how many they are.
+// A line with no line feed was cut off by the end of the input, so it has none.
+fn put_bytes(digits: &[u8], vector: &mut [u8]) -> usize
+    ensures { λ r. ⌜ Counts r (now (vector .exit)) ⌝ }
+{
+    let mut n = 0;
+    for i in 0..digits.len() {
+        let c = digits[i];
+        if c == b'\n' {
+            return n / 2;
+        }
+        let to = n / 2;
+        if c != b' ' && to < vector.len() {
+            vector[to] = joined(vector[to], c);
+            n += 1;
+        }
+    }
+    0
+}
+
+// The byte whose digits are the second of b, and c. A letter is at least 64, and its last four bits are 9 below its worth.
+fn joined(b: u8, c: u8) -> u8 {
+    b % 16 * 16 + (c % 16 + c / 64 * 9) % 16
+}
+
+// Writes a space, the code, a space and the number. The program ends the line, since some have more to say.
+pub fn answer(code: u32, number: usize) {
+    let _space = io::write_all(1, b" ");
+    let _code = io::print_decimal(1, code as u64);
+    let _also = io::write_all(1, b" ");
+    let _number = io::print_decimal(1, number as u64);
+}

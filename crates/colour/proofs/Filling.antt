@@ -2,15 +2,14 @@
 use mathlib.Core.Path.{_≡_, refl, sym, ap, _∙_}
 use mathlib.Core.Bool.{false}
 use mathlib.Core.List.{List, [], _∷_, _++_, append-assoc}
-use Prim.Native.Nat.{ℕ, zero, suc, _+_, _≤_, _<_}
-use native.Mathlib.Numerals.{add-one}
+use Prim.Native.Nat.{ℕ, _+_, _≤_, _<_}
 use native.Mathlib.Omega.{arith}
 use borrow.Author.Tests.{lt-ltb, le-ltb}
 use lib.IntN.{pos}
 use mir.Syntax.{w64}
 use mir.Val.{toZ, ofZ}
 use lib.ListN.{length, getD, take, drop, set, replicate, length-set, length-take, take-append-drop}
-use lib.Seq.{take-suc, take-all}
+use lib.Seq.{take-all}
 use Rattle.interval.specs.declared.Interval.{Interval}
 use Rattle.interval.specs.declared.Bounded.{Bounded}
 use Rattle.interval.specs.declared.Bounded.the-variants.{Within, Past as Over}
@@ -26,8 +25,8 @@ use Rattle.sheet.specs.Records.{recordsOf}
 use Rattle.sheet.specs.Operands.{firstOf, secondOf}
 use Rattle.sheet.specs.Along.{along, onward}
 use Rattle.sheet.proofs.Along.{along-more, length-along, take-along}
-use Rattle.sheet.proofs.Walk.{Before, before-first, stands-record, before-next}
-use Rattle.sheet.proofs.Arrays.{Reads, reads-more}
+use Rattle.sheet.proofs.Walk.{Before, before-first, before-next, stands-few, stands-taken}
+use Rattle.sheet.proofs.Arrays.{Reads, reads-more, filled-with}
 use Rattle.cube.specs.declared.Cube.{Cube}
 use Rattle.colour.specs.declared.State.{State}
 use Rattle.colour.specs.declared.State.the-variants.{Out, In, Single, Comp, Mixed}
@@ -57,11 +56,6 @@ pub record Filling (s : List ℕ) (q : Cube) (b : Bounds) (classes faces : List 
   pub faced : Reads (λ e. faceOf (e .state)) blank faces (done s q (b .count))
   pub keep : Keep (done s q (b .count))
 
-same : {A : Type 0} (x : A) (n a : ℕ) → getD (replicate n x) a x ≡ x
-same x zero a = refl
-same x (suc n) zero = refl
-same x (suc n) (suc a) = same x n a
-
 pub filling-start : (s : List ℕ) (q : Cube) → Filling s q (record { low = replicate 256 (pos 0); high = replicate 256 (pos 0); count = 0 }) (replicate 256 0) (replicate 256 0) 3
 unfolding along onward
 filling-start s q =
@@ -71,10 +65,10 @@ filling-start s q =
       high-long = refl;
       classes-long = refl;
       faces-long = refl;
-      lows = same (pos 0) 256;
-      highs = same (pos 0) 256;
-      classed = same 0 256;
-      faced = same 0 256;
+      lows = filled-with (pos 0) 256;
+      highs = filled-with (pos 0) 256;
+      classed = filled-with 0 256;
+      faced = filled-with 0 256;
       keep = λ a. zero-small;
     }
 
@@ -120,12 +114,6 @@ module _ (s : List ℕ) (q : Cube) (b : Bounds) (classes faces : List ℕ) (at :
 
   -- one record more: r stands there
   module _ (more : n < length rs) (r : Record) (row : rowAt s at ≡ Fits r) where
-    number : getD rs n X ≡ r
-    number = stands-record s at n (w .walk) more r row X
-
-    step : take (n + 1) rs ≡ take n rs ++ r ∷ []
-    step = ap (λ (k : ℕ). take k rs) (add-one n) ∙ take-suc rs n X more ∙ ap (λ (x : Record). take n rs ++ x ∷ []) number
-
     long : length (done s q n) ≡ n
     long = length-along (entryOf q) (take n rs) ∙ (omega (arith, length-take n rs))
 
@@ -148,7 +136,7 @@ module _ (s : List ℕ) (q : Cube) (b : Bounds) (classes faces : List ℕ) (at :
     state-is = rw (operand first, coloured first, coloured second, long)
 
     grown : done s q (n + 1) ≡ done s q n ++ this ∷ []
-    grown = ap (entries q) step ∙ along-more (entryOf q) (take n rs) r
+    grown = ap (entries q) (stands-taken s at n (w .walk) more r row X) ∙ along-more (entryOf q) (take n rs) r
 
     -- all entries: those before it, its own, and those after it
     cut : entries q rs ≡ done s q n ++ (this ∷ drop (n + 1) (entries q rs))
@@ -161,7 +149,7 @@ module _ (s : List ℕ) (q : Cube) (b : Bounds) (classes faces : List ℕ) (at :
     on = before-next s at n (w .walk) more r row
 
     pub room : n < 256
-    room = omega (arith, on .total)
+    room = stands-few s at n (w .walk) more r row
 
     module _ (got : Bounded) (eb : got ≡ boundedOf (boundsOf q (heldAt (b .low) (b .high) first) (heldAt (b .low) (b .high) second) r)) where
       pub judged-past : (which : ℕ) → got ≡ Over → Past n ≡ judgedOf rs q which

@@ -1,10 +1,10 @@
 -- An array that is filled from its start, beside the list of what was stored. Each place not yet filled holds what stands for an entry that is not there,
 -- so the array reads as the list does at every number. Assumes nothing.
-use mathlib.Core.Path.{_≡_}
+use mathlib.Core.Path.{_≡_, refl}
 use mathlib.Core.List.{List, [], _∷_, _++_}
 use Prim.Native.Nat.{ℕ, zero, suc, _<_}
 use native.Mathlib.Omega.{arith}
-use lib.ListN.{length, getD, set}
+use lib.ListN.{length, getD, set, replicate}
 
 -- the array reads as a part of each entry does; d stands for an entry that is not there
 abbrev pub Reads : {A B : Type 0} → (A → B) → A → List B → List A → Type 0
@@ -20,3 +20,9 @@ reads-more part d v w (x ∷ l) [] (suc n) e k p h a = let z : ⊥ = omega arith
 reads-more part d v w (x ∷ l) (y ∷ vs) zero e k p h a = let z : ⊥ = omega arith in absurd z
 reads-more part d v w (x ∷ l) (y ∷ vs) (suc n) e k p h zero = h zero
 reads-more part d v w (x ∷ l) (y ∷ vs) (suc n) e k p h (suc a) = reads-more part d v w l vs n (omega arith) (omega arith) p (λ b. h (suc b)) a
+
+-- an array that is filled with one thing reads as that everywhere
+pub filled-with : {A : Type 0} (x : A) (n a : ℕ) → getD (replicate n x) a x ≡ x
+filled-with x zero a = refl
+filled-with x (suc n) zero = refl
+filled-with x (suc n) (suc a) = filled-with x n a

@@ -1,13 +1,14 @@
 -- Walking through a sheet's records by `Cursor::read`: what holds at a cursor that n records came before. Every loop over records goes by it. Assumes nothing.
 use mathlib.Core.Path.{_≡_, refl, sym, ap, _∙_}
 use mathlib.Core.Bool.{Bool, true, false, cond}
-use mathlib.Core.List.{List, [], _∷_}
+use mathlib.Core.List.{List, [], _∷_, _++_}
 use Prim.Native.Nat.{ℕ, zero, suc, _+_, _-_, _<_, _≤_}
+use native.Mathlib.Numerals.{add-one}
 use native.Mathlib.Omega.{arith}
 use borrow.Author.Tests.{leb-false}
 use lib.Dec.{eqb, leb}
-use lib.ListN.{length, getD, drop, length-drop}
-use lib.Seq.{getD-drop, drop-drop}
+use lib.ListN.{length, getD, take, drop, length-drop}
+use lib.Seq.{getD-drop, drop-drop, take-suc}
 use Rattle.sheet.specs.declared.Record.{Record}
 use Rattle.sheet.specs.declared.Row.{Row}
 use Rattle.sheet.specs.declared.Row.the-variants.{Known, Unknown}
@@ -160,3 +161,11 @@ module _ (s : List ℕ) (at n : ℕ) (w : Before s at n) (more : n < length (rec
         let m : 256 - n - 1 ≡ 256 - (n + 1) = omega arith in
         let g : next ≡ record { at = at + 1 + getD s at 0; left = 256 - (n + 1) } = fitting s here-at f .1 ∙ ap (λ (l : ℕ). record { at = at + 1 + getD s at 0; left = l }) m in
         rw g at t)
+
+    -- there is room for it among 256
+    pub stands-few : n < 256
+    stands-few = omega (arith, before-next .total)
+
+    -- the records up to it are those before it, and it
+    pub stands-taken : (d : Record) → take (n + 1) (recordsOf s) ≡ take n (recordsOf s) ++ r ∷ []
+    stands-taken d = ap (λ (k : ℕ). take k (recordsOf s)) (add-one n) ∙ take-suc (recordsOf s) n d more ∙ ap (λ (x : Record). take n (recordsOf s) ++ x ∷ []) (stands-record d)

@@ -1,19 +1,19 @@
 -- A map that opens can be listed: each leaf is of a level that the root has, and ends in the root. Assumes nothing.
 use mathlib.Core.Path.{_≡_, refl}
 use mathlib.Core.Bool.{Bool, true}
-use mathlib.Core.List.{List, [], _∷_}
-use Prim.Native.Nat.{ℕ, suc, _+_, _-_, _*_, _/_, _%_, _^_, _≤_, _<_}
+use mathlib.Core.List.{List, []}
+use Prim.Native.Nat.{ℕ, _+_, _-_, _*_, _%_, _^_, _≤_, _<_}
 use native.Mathlib.Omega.{arith}
 use lib.ListN.{length}
-use Rattle.integers.specs.First.{onFirst}
 use Rattle.cube.specs.declared.Root.{Root}
 use Rattle.cube.specs.Limits.{inLimits}
 use Rattle.cube.proofs.Cubes.{at-deep}
 use Rattle.zonemap.specs.declared.Leaf.{Leaf}
-use Rattle.zonemap.specs.Opening.{rootOf, leafIn, leavesIn, leavesFrom, leavesOf, sizeOf, leavesFault, headerFault, faultOf}
+use Rattle.zonemap.specs.Opening.{rootOf, leafIn, leavesFrom, leavesOf, sizeOf, leavesFault, headerFault, faultOf}
 use Rattle.zonemap.proofs.Powers.{power-below, shifted}
-use Rattle.zonemap.proofs.Runs.{Run, Fine, opens-run, one-fault, good-level, good-place}
-use Rattle.zonemap.proofs.Found.{header-sizes}
+use Rattle.zonemap.proofs.Runs.{Run, Fine, opens-run, good-level, good-place}
+use Rattle.zonemap.proofs.Scan.{more}
+use Rattle.zonemap.proofs.Found.{header-sizes, opens-parts}
 
 -- ---- one leaf
 module _ (r : Root) (e : inLimits r ≡ true) (l : Leaf) where
@@ -34,14 +34,9 @@ pub record Left (s : List ℕ) (r : Root) (place at : ℕ) : Type 0 where
   pub named : ℕ → Bool
   pub run : Run (Fine named (r .d)) (r .d) place (leavesFrom s at) (8 ^ r .d)
 
-first-none : (ns rest : List ℕ) → onFirst ns (λ at. at ∷ []) rest ≡ [] → (ns ≡ []) × (rest ≡ [])
-first-none [] rest e = (refl, e)
-first-none (n ∷ ns) rest e = absurd (one-fault n e)
-
 module _ (s : List ℕ) (opens : (named : ℕ → Bool) × (faultOf named s ≡ [])) where
   parts : (headerFault s ≡ []) × (leavesFault (opens .0) (rootOf s .d) 0 19 (leavesOf s) ≡ [])
-  unfolding faultOf
-  parts = first-none (headerFault s) _ (opens .1)
+  parts = opens-parts (opens .0) s (opens .1)
 
   pub opened-sizes : (19 ≤ length s) × (length s % 3 ≡ 1) × (inLimits (rootOf s) ≡ true)
   opened-sizes = header-sizes s (parts .0)
@@ -62,8 +57,8 @@ module _ (s : List ℕ) (r : Root) (place at : ℕ) (i : Left s r place at) (h :
   -- l is what `leaf_at` answered
   module _ (l : Leaf) (e : l ≡ leafIn s at) where
     next : Fine (i .named) (r .d) place l × Run (Fine (i .named) (r .d)) (r .d) (place + sizeOf (r .d) l) (leavesFrom s (at + 3)) (8 ^ r .d)
-    unfolding Run leavesIn
-    next = let n : (length s - at) / 3 ≡ suc ((length s - (at + 3)) / 3) = omega (arith, i .beat, i .whole) in rw e (rw n at (i .run))
+    unfolding Run
+    next = rw e (rw (more s at h (i .beat) (i .whole)) at (i .run))
 
     pub left-level : l .level ≤ r .d
     left-level = good-level (i .named) (r .d) place l (next .0)

@@ -18,7 +18,7 @@ use Rattle.zonemap.proofs.Tests.{Sized, sized-good, sized-bad, sized-ro
 
 -- ---- the leaves that are left
 module _ (s : List ℕ) (at : ℕ) where
-  more : at < length s → at % 3 ≡ 1 → length s % 3 ≡ 1 → leavesFrom s at ≡ leafIn s at ∷ leavesFrom s (at + 3)
+  pub more : at < length s → at % 3 ≡ 1 → length s % 3 ≡ 1 → leavesFrom s at ≡ leafIn s at ∷ leavesFrom s (at + 3)
   unfolding leavesIn
   more h a b = let e : (length s - at) / 3 ≡ suc ((length s - (at + 3)) / 3) = omega arith in rw e
 

@@ -2,7 +2,7 @@
 use mathlib.Core.Path.{_≡_, refl}
 use mathlib.Core.Bool.{Bool, true}
 use mathlib.Core.List.{List, []}
-use Prim.Native.Nat.{ℕ, _+_, _-_, _*_, _%_, _^_, _≤_, _<_}
+use Prim.Native.Nat.{ℕ, _+_, _-_, _%_, _^_, _≤_, _<_}
 use native.Mathlib.Omega.{arith}
 use lib.ListN.{length}
 use Rattle.cube.specs.declared.Root.{Root}
@@ -10,7 +10,7 @@ use Rattle.cube.specs.Limits.{inLimits}
 use Rattle.cube.proofs.Cubes.{at-deep}
 use Rattle.zonemap.specs.declared.Leaf.{Leaf}
 use Rattle.zonemap.specs.Opening.{rootOf, leafIn, leavesFrom, leavesOf, sizeOf, leavesFault, headerFault, faultOf}
-use Rattle.zonemap.proofs.Powers.{power-below, shifted}
+use Rattle.zonemap.proofs.Powers.{power-below}
 use Rattle.zonemap.proofs.Runs.{Run, Fine, opens-run, good-level, good-place}
 use Rattle.zonemap.proofs.Scan.{more}
 use Rattle.zonemap.proofs.Found.{header-sizes, opens-parts}
@@ -19,9 +19,6 @@ use Rattle.zonemap.proofs.Found.{header-sizes, opens-parts}
 module _ (r : Root) (e : inLimits r ≡ true) (l : Leaf) where
   pub leaf-few : r .d - l .level ≤ 10
   leaf-few = omega (arith, at-deep r e)
-
-  pub leaf-size : 1 * 2 ^ (3 * (r .d - l .level)) % 4294967296 ≡ sizeOf (r .d) l
-  leaf-size = shifted (r .d - l .level) leaf-few
 
   pub leaf-room : (place : ℕ) → place + sizeOf (r .d) l ≤ 8 ^ r .d → place + sizeOf (r .d) l ≤ 2 ^ 30
   leaf-room place h = omega (arith, power-below (r .d) (at-deep r e))

@@ -5,6 +5,7 @@ mod opening;
 use cube::Root;
 pub use opening::find;
 pub use opening::leaf_at;
+pub use opening::power;
 pub use opening::read_header;
 ghost use mathlib.Core.Path.{_≡_};
 ghost use Prim.Native.Nat.{_+_, _≤_, _^_};

@@ -71,8 +71,8 @@ pub fn leaf_at(map: &[u8], at: usize) -> Leaf
     }
 }
 
-// 8 to the power n.
-fn power(n: u8) -> u32
+// 8 to the power n: how many smallest cubes a cube has that n levels are below.
+pub fn power(n: u8) -> u32
     requires { ⌜ n ≤ 10 ⌝ }
     ensures { λ r. ⌜ r ≡ 8 ^ n ⌝ }
 {

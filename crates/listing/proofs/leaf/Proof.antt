@@ -1,27 +1,20 @@
 -- `listing::leaf` meets its contract: the casts lose nothing, and the place after a leaf fits. Assumes nothing.
 use Rattle.text.proofs.Signs.{widened}
-use Rattle.listing.proofs.Opened.{leaf-few, leaf-size, leaf-room}
+use Rattle.listing.proofs.Opened.{leaf-few, leaf-room}
 use native.Mathlib.Omega.{arith}
 use borrow.Author.Needs.{needs}
 use Rattle.listing.proofs.leaf.Statement.{statement}
 use Rattle.listing.proofs.leaf.Tie as tie
 
-sub-next : tie.Need-sub-next
-sub-next c = search needs
+sub-power : tie.Need-sub-power
+sub-power c = search needs
 
-mul-next : tie.Need-mul-next
-mul-next c =
-    record { fits = omega (arith, leaf-few _ (c .before .before .pre .0) (c .before .before .args .leaf)) }
-
-cast-next : tie.Need-cast-next
-cast-next c = search needs
-
-shl-next : tie.Need-shl-next
-shl-next c = omega (arith, leaf-few _ (c .before .before .pre .0) (c .before .before .args .leaf))
+power-requires : tie.Need-power-requires
+power-requires c κs = leaf-few _ (c .before .before .pre .0) (c .before .before .args .leaf)
 
 add-next : tie.Need-add-next
 add-next c =
-    record { fits = omega (arith, leaf-size _ (c .before .before .pre .0) (c .before .before .args .leaf), leaf-room _ (c .before .before .pre .0) (c .before .before .args .leaf) _ (c .before .before .pre .1 .1)) }
+    record { fits = omega (arith, c .power .ensures, leaf-room _ (c .before .before .before .pre .0) (c .before .before .before .args .leaf) (c .before .before .before .args .place) (c .before .before .before .pre .1 .1)) }
 
 cube-at-requires : tie.Need-cube-at-requires
 cube-at-requires c κs = search needs
@@ -48,17 +41,14 @@ line-requires : tie.Need-line-requires
 line-requires c κs = search needs
 
 returns : tie.Need-returns
-returns c =
-    omega (arith, leaf-size _ (c .before .before .before .before .before .before .before .before .before .before .before .before .before .pre .0) (c .before .before .before .before .before .before .before .before .before .before .before .before .before .args .leaf))
+returns c = search needs
 
 pub leaf-spec : {M : Type 1} → statement M
 leaf-spec =
     tie.close
     (tie.spec
-    sub-next
-    mul-next
-    cast-next
-    shl-next
+    sub-power
+    power-requires
     add-next
     cube-at-requires
     cast-line

@@ -1,0 +1,2 @@
+pub mod BoundsHold
+pub mod StatesSound

@@ -1,0 +1,128 @@
+-- States are sound: what a record's state over a closed cube says is so at every point of it, fractions included. Assumes nothing.
+use mathlib.Core.Path.{_≡_, refl, sym, ap, _∙_}
+use mathlib.Core.Bool.{Bool, true, false, cond, not, _&&_, _||_, and-true, and-false, or-true, or-false, Bool·not-not, true≢false}
+use mathlib.Core.List.{List, _∷_, _++_}
+use Prim.Native.Nat.{ℕ, _^_, _<_}
+use native.Mathlib.Nat.{one-le-pow}
+use lib.IntN.{pos}
+use lib.ListN.{length, getD}
+use lib.Signed.{leZ, ltZ, <ℤ-≤ℤ-trans}
+use Rattle.integers.proofs.Order.{≤-trans, by-test, leZ-true, ltZ-true, le-test, gt-test, at-most-zero, above-zero}
+use Rattle.interval.specs.declared.Interval.{Interval}
+use Rattle.sheet.specs.declared.Record.{Record}
+use Rattle.sheet.specs.declared.Record.the-variants.{Constant, X, Y, Z, Sum, Difference, Product, Square, Face, Both, Either, Complement}
+use Rattle.sheet.proofs.Along.{Pairs, length-along, entry, related-in}
+use Rattle.cube.specs.declared.Cube.{Cube}
+use Rattle.colour.specs.declared.State.{State}
+use Rattle.colour.specs.declared.State.the-variants.{Out, In, Single, Comp, Mixed}
+use Rattle.colour.specs.States.{isIn, isOut, faceState, complementOf, bothOf, eitherOf, stateOf}
+use Rattle.colour.specs.Entries.{Entry, blank, entryOf, entries}
+use Rattle.meaning.specs.Fractions.{FractionalPoint, InClosed}
+use Rattle.meaning.specs.Truth.{Value, atMostZero, Meant, absent, holdsOf, meantOf, meanings, holdsAt}
+use Rattle.soundness.specs.Claims.{HoldsValue, Sound}
+use Rattle.soundness.proofs.BoundsHold.{bounds-hold}
+
+-- ---- each rule, once
+module _ (face : ℕ → Bool) where
+  -- In if b <= 0; Out if a > 0; else Single(that face)
+  pub face-sound : (n : ℕ) → 0 < n → (i : Interval) (v : Value) (f : ℕ) → HoldsValue n i v → face f ≡ atMostZero v → Sound face (faceState i f) (atMostZero v)
+  unfolding faceState Sound
+  face-sound n positive i v f h e =
+      let scale = n ^ v .power in
+      by-test (leZ (i .high) (pos 0))
+      (λ t. rw t (le-test (v .numerator) (pos 0) (≤-trans _ _ _ (h .high) (at-most-zero (i .high) scale (leZ-true (i .high) (pos 0) t)))))
+      (λ t.
+      by-test (ltZ (pos 0) (i .low))
+      (λ u. rw (t, u) (gt-test (v .numerator) (pos 0) (<ℤ-≤ℤ-trans (above-zero (i .low) scale (ltZ-true (pos 0) (i .low) u) (one-le-pow (v .power) n positive)) (h .low))))
+      (λ u. rw (t, u) (sym e)))
+
+  -- Mixed says nothing
+  pub mixed-sound : (a : Bool) → Sound face Mixed a
+  unfolding Sound
+  mixed-sound a = tt
+
+  pub complement-sound : (s : State) (a : Bool) → Sound face s a → Sound face (complementOf s) (not a)
+  unfolding Sound
+  complement-sound Out a h = ap not h
+  complement-sound In a h = ap not h
+  complement-sound (Single f) a h = ap not h
+  complement-sound (Comp f) a h = ap not h ∙ Bool·not-not (face f)
+  complement-sound Mixed a h = tt
+
+  in-holds : (s : State) (a : Bool) → isIn s ≡ true → Sound face s a → a ≡ true
+  unfolding Sound
+  in-holds Out a e h = absurd (true≢false (sym e))
+  in-holds In a e h = h
+  in-holds (Single f) a e h = absurd (true≢false (sym e))
+  in-holds (Comp f) a e h = absurd (true≢false (sym e))
+  in-holds Mixed a e h = absurd (true≢false (sym e))
+
+  out-fails : (s : State) (a : Bool) → isOut s ≡ true → Sound face s a → a ≡ false
+  unfolding Sound
+  out-fails Out a e h = h
+  out-fails In a e h = absurd (true≢false (sym e))
+  out-fails (Single f) a e h = absurd (true≢false (sym e))
+  out-fails (Comp f) a e h = absurd (true≢false (sym e))
+  out-fails Mixed a e h = absurd (true≢false (sym e))
+
+  -- Both and either are one rule: a state that decides by itself, one that leaves the other's as it is, otherwise Mixed.
+  module _ (decides leaves : State → Bool) (decided : State) (join : Bool → Bool → Bool)
+      (first-decides : (s : State) (a b : Bool) → decides s ≡ true → Sound face s a → Sound face decided (join a b))
+      (second-decides : (t : State) (a b : Bool) → decides t ≡ true → Sound face t b → Sound face decided (join a b))
+      (first-leaves : (s : State) (a b : Bool) → leaves s ≡ true → Sound face s a → join a b ≡ b)
+      (second-leaves : (t : State) (a b : Bool) → leaves t ≡ true → Sound face t b → join a b ≡ a) where
+    joined : (s t : State) (a b : Bool) → Sound face s a → Sound face t b
+        → Sound face (cond (decides s || decides t) decided (cond (leaves s) t (cond (leaves t) s Mixed))) (join a b)
+    joined s t a b h k =
+        by-test (decides s) (λ e. rw e (first-decides s a b e h))
+        (λ e. by-test (decides t) (λ f. rw (e, f) (second-decides t a b f k))
+        (λ f. by-test (leaves s) (λ g. rw (e, f, g, first-leaves s a b g h) k)
+        (λ g. by-test (leaves t) (λ i. rw (e, f, g, i, second-leaves t a b i k) h)
+        (λ i. rw (e, f, g, i) (mixed-sound (join a b))))))
+
+  pub both-sound : (s t : State) (a b : Bool) → Sound face s a → Sound face t b → Sound face (bothOf s t) (a && b)
+  unfolding bothOf Sound
+  both-sound =
+      joined isOut isIn Out _&&_ (λ s a b e h. rw (out-fails s a e h)) (λ t a b e k. rw (out-fails t b e k) (and-false a)) (λ s a b e h. rw (in-holds s a e h)) (λ t a b e k. rw (in-holds t b e k) (and-true a))
+
+  pub either-sound : (s t : State) (a b : Bool) → Sound face s a → Sound face t b → Sound face (eitherOf s t) (a || b)
+  unfolding eitherOf Sound
+  either-sound =
+      joined isIn isOut In _||_ (λ s a b e h. rw (in-holds s a e h)) (λ t a b e k. rw (in-holds t b e k) (or-true a)) (λ s a b e h. rw (out-fails s a e h)) (λ t a b e k. rw (out-fails t b e k) (or-false a))
+
+-- ---- all records
+module _ (q : Cube) (p : FractionalPoint) (h : InClosed q p) (rs : List Record) where
+  abbrev face : ℕ → Bool
+  face f = holdsAt rs f p
+
+  abbrev Says : Entry → Meant → Type 0
+  Says e m = Sound face (e .state) (m .holds)
+
+  -- a face's own entry
+  own : (before after : List Record) (a : ℕ) → before ++ Face a ∷ after ≡ rs → face (length (entries q before)) ≡ atMostZero (getD (meanings p before) a absent .value)
+  unfolding holdsAt meantOf holdsOf
+  own before after a e =
+      ap face (length-along (entryOf q) before)
+      ∙ ap (λ (l : List Record). getD (meanings p l) (length before) absent .holds) (sym e)
+      ∙ ap (λ (m : Meant). m .holds) (entry (meantOf p) before (Face a) after absent)
+
+  step-sound : (before : List Record) (r : Record) (after : List Record) → before ++ r ∷ after ≡ rs → Pairs Says blank absent (entries q before) (meanings p before)
+      → Says (entryOf q (entries q before) r) (meantOf p (meanings p before) r)
+  unfolding entryOf stateOf meantOf holdsOf
+  step-sound before (Constant c) after e k = mixed-sound face false
+  step-sound before X after e k = mixed-sound face false
+  step-sound before Y after e k = mixed-sound face false
+  step-sound before Z after e k = mixed-sound face false
+  step-sound before (Sum a b) after e k = mixed-sound face false
+  step-sound before (Difference a b) after e k = mixed-sound face false
+  step-sound before (Product a b) after e k = mixed-sound face false
+  step-sound before (Square a) after e k = mixed-sound face false
+  step-sound before (Face a) after e k = face-sound face (p .n) (p .positive) _ _ _ (bounds-hold q p h before a) (own before after a e)
+  step-sound before (Both a b) after e k = both-sound face _ _ _ _ (k .each a) (k .each b)
+  step-sound before (Either a b) after e k = either-sound face _ _ _ _ (k .each a) (k .each b)
+  step-sound before (Complement a) after e k = complement-sound face _ _ (k .each a)
+
+  -- what the state of record i over the cube says is so at the point
+  pub states-sound : (i : ℕ) → Sound face (getD (entries q rs) i blank .state) (holdsAt rs i p)
+  unfolding Sound holdsAt
+  states-sound i = related-in Says blank absent refl (entryOf q) (meantOf p) rs step-sound .each i

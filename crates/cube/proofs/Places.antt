@@ -85,16 +85,20 @@ point-told p fx fy fz = rw (toZ-ofZ fx, toZ-ofZ fy, toZ-ofZ fz)
 abbrev Between : ℤ → ℕ → ℤ → Type 0
 Between low side v = (low ≤ℤ v) × (v <ℤ (low +ℤ pos side))
 
-axis-between : (low : ℤ) (side : ℕ) (v : ℤ) → axisHolds low side v ≡ true → Between low side v
+pub axis-between : (low : ℤ) (side : ℕ) (v : ℤ) → axisHolds low side v ≡ true → Between low side v
 unfolding axisHolds
 axis-between low side v e = let t = both (leZ low v) (ltZ v (low +ℤ pos side)) e in (leZ-true _ _ (t .0), ltZ-true _ _ (t .1))
+
+pub axis-holds : (low : ℤ) (side : ℕ) (v : ℤ) → low ≤ℤ v → v <ℤ (low +ℤ pos side) → axisHolds low side v ≡ true
+unfolding axisHolds
+axis-holds low side v l u = rw (le-test low v l, T-true (ltZ v (low +ℤ pos side)) (u .lt))
 
 none-below : (a : ℤ) → pos 0 ≤ℤ a → dn a ≡ 0
 none-below (pos n) h = refl
 none-below (negsuc n) h = absurd (h .le)
 
 -- as far above the low one as it is, it is
-gap-added : (low v : ℤ) → low ≤ℤ v → low +ℤ pos (natAbs (v -ℤ low)) ≡ v
+pub gap-added : (low v : ℤ) → low ≤ℤ v → low +ℤ pos (natAbs (v -ℤ low)) ≡ v
 gap-added low v h =
     let z : dn (v -ℤ low) ≡ 0 = none-below (v -ℤ low) (omega (arith, ints, minus-is v low)) in
     omega (arith, ints, +-is low (pos (natAbs (v -ℤ low))), minus-is v low, abs-is (v -ℤ low), z)
@@ -130,7 +134,7 @@ module _ (q : Cube) (p : Point) (e : holdsPoint q p ≡ true) where
   abbrev InZ : Bool
   InZ = axisHolds (q .z) (q .side) (p .z)
 
-  axes : (InX ≡ true) × (InY ≡ true) × (InZ ≡ true)
+  pub axes : (InX ≡ true) × (InY ≡ true) × (InZ ≡ true)
   unfolding holdsPoint
   axes = let z = both (InX && InY) InZ e in let y = both InX InY (z .0) in (y .0, y .1, z .1)
 
@@ -250,15 +254,12 @@ place-within (suc n) (suc d) c x y z h l wx wy wz =
 -- a coordinate against planes that are moved from the low one
 module _ (low v : ℤ) (h : low ≤ℤ v) (a side : ℕ) where
   axis-moved : a ≤ natAbs (v -ℤ low) → natAbs (v -ℤ low) < a + side → axisHolds (low +ℤ pos a) side v ≡ true
-  unfolding axisHolds
   axis-moved l u =
       let b = gap-added low v h in
       let o = +-is low (pos (natAbs (v -ℤ low))) in
       let s = +-is low (pos a) in
       let t = +-is (low +ℤ pos a) (pos side) in
-      let k : (low +ℤ pos a) ≤ℤ v = omega (arith, ints) in
-      let j : v <ℤ ((low +ℤ pos a) +ℤ pos side) = omega (arith, ints) in
-      rw (le-test (low +ℤ pos a) v k, T-true (ltZ v ((low +ℤ pos a) +ℤ pos side)) (j .lt))
+      axis-holds (low +ℤ pos a) side v (omega (arith, ints)) (omega (arith, ints))
 
   axis-from : axisHolds (low +ℤ pos a) side v ≡ true → (a ≤ natAbs (v -ℤ low)) × (natAbs (v -ℤ low) < a + side)
   axis-from e =

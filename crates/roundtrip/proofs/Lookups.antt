@@ -57,7 +57,7 @@ module _ (s : List ℕ) (root : Root) (out after : List ℕ) (n : ℕ) (e : outc
   pub made : Made n out after (recordsOf s) root
   made = done-made s root out after n e .1
 
-  map-is : take n after ≡ builtMap (recordsOf s) root
+  pub map-is : take n after ≡ builtMap (recordsOf s) root
   map-is =
       ap (take n) (made .bytes)
       ∙ ap (λ (k : ℕ). take k (builtMap (recordsOf s) root ++ drop (length (builtMap (recordsOf s) root)) out)) (made .size)

@@ -54,15 +54,16 @@ module _ (n : ℕ) (out after : List ℕ) where
   pub record Made (rs : List Record) (root : Root) : Type 0 where
     pub within : inLimits root ≡ true
     pub none : pastOf rs (rootCube root) ≡ []
+    pub below : pastsOf rs (root .d) (rootCube root) ≡ []
     pub size : n ≡ length (builtMap rs root)
     pub room : n ≤ length out
     pub bytes : after ≡ builtMap rs root ++ drop (length (builtMap rs root)) out
 
   module _ (rs : List Record) (root : Root) where
-    stored-made : inLimits root ≡ true → pastOf rs (rootCube root) ≡ [] → done ≡ storedOf (builtMap rs root) out → Made rs root
+    stored-made : inLimits root ≡ true → pastOf rs (rootCube root) ≡ [] → (pastsOf rs (root .d) (rootCube root) ≡ []) × (done ≡ storedOf (builtMap rs root) out) → Made rs root
     stored-made w p e =
-        let t = stored (builtMap rs root) e in
-        record { within = w; none = p; size = t .0; room = omega (arith, t .0, t .1); bytes = t .2 }
+        let t = stored (builtMap rs root) (e .1) in
+        record { within = w; none = p; below = e .0; size = t .0; room = omega (arith, t .0, t .1); bytes = t .2 }
 
     solid-made : done ≡ solidOf rs root out → Made rs root
     unfolding solidOf
@@ -70,7 +71,7 @@ module _ (n : ℕ) (out after : List ℕ) where
         by-test (inLimits root)
         (λ h.
         let p = none-first (pastOf rs (rootCube root)) (λ k. outcome (OverRoot k) out) _ (λ k. refl) (rw h at e) in
-        stored-made h (p .0) (none-first (pastsOf rs (root .d) (rootCube root)) (λ k. outcome (OverSmaller k) out) _ (λ k. refl) (p .1) .1))
+        stored-made h (p .0) (none-first (pastsOf rs (root .d) (rootCube root)) (λ k. outcome (OverSmaller k) out) _ (λ k. refl) (p .1)))
         (λ h. no-other (outcome Limits out) refl (rw h at e))
 
 module _ (s : List ℕ) (root : Root) (out after : List ℕ) (n : ℕ) where

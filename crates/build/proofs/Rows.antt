@@ -59,15 +59,6 @@ pub map-1 : builtMap stepRecords (stepRoot 1) ≡ stepMap
 unfolding builtMap mapOf headerOf cornerBytes bytesOf unsigned32 leavesBytes leafBytes
 map-1 = ap (mapOf (stepRoot 1)) depth-1
 
--- their lengths
-pub length-0 : length (builtMap stepRecords (stepRoot 0)) ≡ 22
-unfolding builtMap mapOf headerOf cornerBytes bytesOf unsigned32 leavesBytes leafBytes
-length-0 = ap (λ (ls : List Leaf). length (mapOf (stepRoot 0) ls)) depth-0
-
-pub length-2 : length (builtMap stepRecords (stepRoot 2)) ≡ 85
-unfolding builtMap mapOf headerOf cornerBytes bytesOf unsigned32 leavesBytes leafBytes
-length-2 = ap (λ (ls : List Leaf). length (mapOf (stepRoot 2) ls)) depth-2
-
 -- ---- what building answers
 -- the root is in its limits, and no record passes the limit
 abbrev Plain : ℕ → Type 0

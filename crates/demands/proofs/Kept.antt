@@ -1,16 +1,33 @@
 -- The three demands are kept. Assumes nothing.
-use mathlib.Core.Bool.{true, false}
-use Rattle.demands.specs.Demands.{Demands, Demand2, Demand3}
-use Rattle.demands.proofs.Outcomes.{demand-1}
-use Rattle.demands.proofs.Maps.{the-map}
+use Rattle.sheet.specs.Check.{checkOf}
+use Rattle.build.specs.Build.{buildOf}
+use Rattle.lookup.specs.Lookup.{lookupOf}
+use Rattle.zone.specs.Replies.{zoneBuildOf, zoneLookupOf}
+use Rattle.demands.specs.Demands.{Demands, Demand1, Demand2, Demand3}
+use Rattle.demands.proofs.Outcomes.{alone, builds, builds-only, unchanged}
+use Rattle.demands.proofs.Maps.{can-look-up, the-map}
 use Rattle.demands.proofs.AtPoint.{by-its-face}
 use Rattle.demands.proofs.Soundness.{agrees, no-touch}
 use Rattle.demands.proofs.Tiling.{tiling, covering}
-use Rattle.demands.proofs.Lookups.{by-the-leaf, truth}
+use Rattle.demands.proofs.Lookups.{looks-up, looks-up-only, by-the-leaf, truth}
 use Rattle.demands.proofs.Rows.{rows}
 
+demand-1 : Demand1
+demand-1 = record {
+  check = λ sheet. alone (checkOf sheet);
+  build = λ sheet root before. alone (buildOf sheet root before);
+  lookup = λ sheet map p. alone (lookupOf sheet map p);
+  zone-build = λ sheet root before. alone (zoneBuildOf sheet root before);
+  zone-lookup = λ sheet map p. alone (zoneLookupOf sheet map p);
+  builds = builds;
+  builds-only = builds-only;
+  unchanged = λ sheet root before. unchanged before sheet root;
+  looks-up = looks-up;
+  looks-up-only = looks-up-only;
+}
+
 demand-2 : Demand2
-demand-2 = record { the-map = the-map; by-the-leaf = by-the-leaf; by-its-face = by-its-face }
+demand-2 = record { the-map = the-map; can-look-up = can-look-up; by-the-leaf = by-the-leaf; by-its-face = by-its-face }
 
 demand-3 : Demand3
 demand-3 = record {
@@ -18,8 +35,7 @@ demand-3 = record {
   no-touch = no-touch;
   tiling = tiling;
   covering = covering;
-  outside = λ sheet map b p. truth sheet map b p false;
-  inside = λ sheet map b p. truth sheet map b p true;
+  truth = truth;
 }
 
 pub demands : Demands

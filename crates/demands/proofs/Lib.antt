@@ -6,3 +6,5 @@ pub mod Tiling
 pub mod Lookups
 pub mod Rows
 pub mod Kept
+pub mod Contracts
+pub mod Returns

@@ -1,14 +1,16 @@
--- What a lookup answers: the leaf that holds the position does, and in a built map what it answers is the truth of the solid there. Assumes nothing.
+-- What a lookup answers: code 0 exactly where no row of the table refuses; the leaf that holds the position decides; and in a built map what it answers is the truth of the solid there. Assumes nothing.
 use mathlib.Core.Path.{_≡_, refl, sym, ap, _∙_}
-use mathlib.Core.Bool.{Bool, true, false, cond, not}
-use mathlib.Core.List.{List, []}
+use mathlib.Core.Bool.{Bool, true, false, not}
+use mathlib.Core.List.{List, [], _∷_}
 use Prim.Native.Nat.{ℕ}
 use native.Mathlib.Omega.{arith}
 use borrow.Author.Tests.{eqb-true}
 use lib.Dec.{eqb}
+use Rattle.integers.specs.First.{onFirst}
 use Rattle.integers.proofs.Order.{by-test}
 use Rattle.sheet.specs.declared.Record.{Record}
-use Rattle.sheet.specs.declared.Checked.the-variants.{Good}
+use Rattle.sheet.specs.declared.Checked.{Checked}
+use Rattle.sheet.specs.declared.Checked.the-variants.{Good, Refused}
 use Rattle.sheet.specs.Records.{recordsOf}
 use Rattle.sheet.specs.Check.{checkOf}
 use Rattle.kinds.specs.Faces.{hasFace}
@@ -24,34 +26,58 @@ use Rattle.zonemap.specs.Opening.{rootOf, faultOf}
 use Rattle.zonemap.proofs.Found.{leaf-bytes}
 use Rattle.zonemap.proofs.Tiling.{one}
 use Rattle.lookup.specs.declared.Answer.{Answer}
-use Rattle.lookup.specs.declared.Answer.the-variants.{Outside, Inside, Undecided}
+use Rattle.lookup.specs.declared.Answer.the-variants.{Undecided}
 use Rattle.lookup.specs.declared.Reply.{Reply}
-use Rattle.lookup.specs.declared.Reply.the-variants.{Done, NotInRoot}
-use Rattle.lookup.specs.Lookup.{faceHolds, sideOf, answerOf, leafHolding, mapReply, lookupOf}
-use Rattle.demands.specs.Demands.{Built, leafOf, cubeOf, Holds, Touches, ByTheLeaf, Agrees}
-use Rattle.demands.proofs.Maps.{good, opens, none-past}
+use Rattle.lookup.specs.declared.Reply.the-variants.{Done, Map, OverRoot}
+use Rattle.lookup.specs.Lookup.{sideOf, answerOf, leafHolding, mapReply, onSheet, lookupOf, codeOf}
+use Rattle.demands.specs.Terms.{Built, nthLeaf, nthCube, Touches, CanLookUp}
+use Rattle.demands.specs.Demands.{ByTheLeaf, Agrees}
+use Rattle.demands.proofs.Outcomes.{sheet-code}
 use Rattle.demands.proofs.AtPoint.{by-its-face}
 use Rattle.demands.proofs.Soundness.{agrees}
 use Rattle.demands.proofs.Tiling.{found}
 
--- ---- by the leaf
-module _ (sheet map : List ℕ) (p : Point) (n : ℕ) (sound : checkOf sheet ≡ Good n) (open′ : faultOf (hasFace (recordsOf sheet)) map ≡ [])
-    (none : pastOf (recordsOf sheet) (rootCube (rootOf map)) ≡ []) where
-  replies : lookupOf sheet map p ≡ cond (holdsPoint (rootCube (rootOf map)) p) (Done (answerOf (recordsOf sheet) (leafHolding map p) p)) NotInRoot
-  unfolding lookupOf mapReply
-  replies = rw (sound, open′, none) (by-test (holdsPoint (rootCube (rootOf map)) p) (λ t. rw t) (λ t. rw t))
+-- ---- exactly where no row of the table refuses
+-- a list whose first would decide for another code is empty
+none-first : (ns : List ℕ) (f : ℕ → Reply) (rest : Reply) → ((n : ℕ) → codeOf (f n) ≡ 0 → ⊥) → codeOf (onFirst ns f rest) ≡ 0 → (ns ≡ []) × (codeOf rest ≡ 0)
+none-first [] f rest h e = (refl, e)
+none-first (n ∷ ns) f rest h e = absurd (h n e)
 
-  pub by-the-leaf : holdsPoint (rootCube (rootOf map)) p ≡ true → ByTheLeaf sheet map p
-  unfolding leafHolding
-  by-the-leaf inside =
-      let named = hasFace (recordsOf sheet) in
-      let i : ℕ = one named map open′ p inside in
-      let h = found named map open′ p inside in
+module _ (sheet map : List ℕ) (p : Point) where
+  abbrev rs : List Record
+  rs = recordsOf sheet
+
+  map-looks-up : (n : ℕ) → checkOf sheet ≡ Good n → codeOf (mapReply rs map p) ≡ 0 → CanLookUp sheet map p
+  unfolding mapReply
+  map-looks-up n g e =
+      let opened = none-first (faultOf (hasFace rs) map) Map _ (λ at z. omega arith) e in
+      let over = none-first (pastOf rs (rootCube (rootOf map))) OverRoot _ (λ at z. omega arith) (opened .1) in
+      by-test (holdsPoint (rootCube (rootOf map)) p)
+      (λ t. record { good = (n, g); opens = opened .0; over-root = over .0; inside = t })
+      (λ t. let z : _≡_ {A = ℕ} 10 0 = rw t at (over .1) in absurd (omega arith))
+
+  sheet-looks-up : (checked : Checked) → checkOf sheet ≡ checked → codeOf (onSheet checked rs map p) ≡ 0 → CanLookUp sheet map p
+  sheet-looks-up (Good n) g e = map-looks-up n g e
+  sheet-looks-up (Refused why) g e = absurd (sheet-code why e)
+
+  pub looks-up-only : codeOf (lookupOf sheet map p) ≡ 0 → CanLookUp sheet map p
+  unfolding lookupOf
+  looks-up-only e = sheet-looks-up (checkOf sheet) refl e
+
+  -- ---- by the leaf
+  pub by-the-leaf : CanLookUp sheet map p → ByTheLeaf sheet map p
+  unfolding leafHolding lookupOf mapReply
+  by-the-leaf c =
+      let i : ℕ = one (hasFace rs) map (c .opens) p (c .inside) in
+      let h = found (hasFace rs) map (c .opens) p (c .inside) in
       record {
         number = i;
         holds = h;
-        answer = replies ∙ rw inside (ap (λ (l : Leaf). Done (answerOf (recordsOf sheet) l p)) (sym (leaf-bytes map i (h .among))));
+        answer = rw (c .good .1, c .opens, c .over-root, c .inside) (ap (λ (l : Leaf). Done (answerOf rs l p)) (sym (leaf-bytes map i (h .among))));
       }
+
+  pub looks-up : CanLookUp sheet map p → codeOf (lookupOf sheet map p) ≡ 0
+  looks-up c = ap codeOf (by-the-leaf c .answer)
 
 -- ---- the truth
 -- a side is that of one truth
@@ -84,18 +110,9 @@ module _ (sheet map : List ℕ) (b : Built sheet map) (p : Point) where
   -- what a lookup in a built map answers is the truth
   pub truth : (side : Bool) → lookupOf sheet map p ≡ Done (sideOf side) → inSolid (recordsOf sheet) (whole p) ≡ side
   truth side e =
-      let g = good sheet map b in
-      let o = opens sheet map b in
-      let none = none-past sheet map b in
-      by-test (holdsPoint (rootCube (rootOf map)) p)
-      (λ t.
-      let f = by-the-leaf sheet map p (g .0) (g .1) o none t in
-      let closed : Touches map (whole p) (f .number) = record { among = f .holds .among; closed = held-closed (cubeOf map (f .number)) p (f .holds .held) } in
-      answer-true (recordsOf sheet) (leafOf map (f .number)) p (agrees sheet map b (whole p) (f .number) closed) side (same-answer _ _ (sym (f .answer) ∙ e)))
-      (λ t. not-done _ (sym (replies sheet map p (g .0) (g .1) o none ∙ rw t) ∙ e))
+      let f = by-the-leaf sheet map p (looks-up-only sheet map p (ap codeOf e)) in
+      let closed : Touches map (whole p) (f .number) = record { among = f .holds .among; closed = held-closed (nthCube map (f .number)) p (f .holds .held) } in
+      answer-true (recordsOf sheet) (nthLeaf map (f .number)) p (agrees sheet map b (whole p) (f .number) closed) side (same-answer _ _ (sym (f .answer) ∙ e))
     where
       same-answer : (a c : Answer) → Done a ≡ Done c → a ≡ c
       same-answer a c e = cc
-
-      not-done : {A : Type 0} (a : Answer) → NotInRoot ≡ Done a → A
-      not-done a e = let z : _≡_ {A = ℕ} 0 1 = cc in absurd (omega arith)

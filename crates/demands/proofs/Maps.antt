@@ -1,32 +1,36 @@
 -- What a map built from a sheet is: the map that the rules name, which opens, each leaf of it being that of the cube at its own place. Assumes nothing.
-use mathlib.Core.Path.{_≡_, sym, ap, _∙_}
+use mathlib.Core.Path.{_≡_, ap, _∙_}
 use mathlib.Core.Bool.{true}
 use mathlib.Core.List.{List, [], _++_}
 use Prim.Native.Nat.{ℕ, _<_}
-use lib.ListN.{length, getD, drop}
-use lib.Seq.{drop-append-seam}
+use lib.ListN.{length, take, drop}
+use lib.Seq.{take-append-seam, drop-append-seam}
 use Rattle.sheet.specs.declared.Record.{Record}
 use Rattle.sheet.specs.declared.Checked.the-variants.{Good}
 use Rattle.sheet.specs.Records.{recordsOf}
 use Rattle.sheet.specs.Check.{checkOf}
 use Rattle.kinds.specs.Faces.{hasFace}
 use Rattle.cube.specs.declared.Root.{Root}
+use Rattle.cube.specs.declared.Point.{Point}
 use Rattle.cube.specs.Limits.{inLimits}
-use Rattle.cube.specs.Cubes.{rootCube, cubeAt}
-use Rattle.colour.specs.Entries.{pastOf}
-use Rattle.zonemap.specs.declared.Leaf.{Leaf}
+use Rattle.cube.specs.Cubes.{rootCube}
+use Rattle.cube.specs.Points.{holdsPoint}
 use Rattle.zonemap.specs.Opening.{rootOf, leavesOf, faultOf}
-use Rattle.zonemap.specs.Leaves.{placeAt, nowhere}
 use Rattle.zonemap.proofs.Bytes.{map-length}
-use Rattle.build.specs.Solid.{leafOf as leafOfCube}
+use Rattle.build.specs.Solid.{leafOf}
 use Rattle.build.specs.Build.{builtMap}
 use Rattle.build.proofs.Answers.{Made, done-made}
 use Rattle.roundtrip.proofs.Built.{all, built-opens, built-root, built-leaves, leaf-is}
-use Rattle.roundtrip.proofs.Lookups.{made, map-is}
-use Rattle.demands.specs.Demands.{Built, leafOf, cubeOf, TheMap}
+use Rattle.demands.specs.Terms.{Built, nthLeaf, nthCube, CanLookUp}
+use Rattle.demands.specs.Demands.{TheMap}
 
-later-stay : (n : ℕ) (map before after : List ℕ) → n ≡ length map → after ≡ map ++ drop (length map) before → drop n after ≡ drop n before
-later-stay n map before after e h = rw (h, e) (drop-append-seam map (drop (length map) before))
+-- a buffer that starts with the map
+module _ (n : ℕ) (map before after : List ℕ) (size : n ≡ length map) (bytes : after ≡ map ++ drop (length map) before) where
+  first-bytes : take n after ≡ map
+  first-bytes = rw (bytes, size) (take-append-seam map (drop (length map) before))
+
+  later-stay : drop n after ≡ drop n before
+  later-stay = rw (bytes, size) (drop-append-seam map (drop (length map) before))
 
 module _ (sheet map : List ℕ) (b : Built sheet map) where
   abbrev rs : List Record
@@ -35,19 +39,19 @@ module _ (sheet map : List ℕ) (b : Built sheet map) where
   abbrev root : Root
   root = b .root
 
-  known : Made (b .size) (b .before) (b .after) rs root
-  known = made sheet root (b .before) (b .after) (b .size) (b .answered)
+  -- the sheet is good, and its map stands at the start of the buffer
+  told : ((n : ℕ) × (checkOf sheet ≡ Good n)) × Made (b .size) (b .before) (b .after) rs root
+  told = done-made sheet root (b .before) (b .after) (b .size) (b .answered)
 
-  -- the sheet is good
-  pub good : (n : ℕ) × (checkOf sheet ≡ Good n)
-  good = done-made sheet root (b .before) (b .after) (b .size) (b .answered) .0
+  abbrev known : Made (b .size) (b .before) (b .after) rs root
+  known = told .1
 
   within : inLimits root ≡ true
   within = known .within
 
   -- the map that the rules name
   is : map ≡ builtMap rs root
-  is = b .bytes ∙ map-is sheet root (b .before) (b .after) (b .size) (b .answered)
+  is = b .bytes ∙ first-bytes (b .size) (builtMap rs root) (b .before) (b .after) (known .size) (known .bytes)
 
   root-is : rootOf map ≡ root
   root-is = ap rootOf is ∙ built-root rs root within
@@ -58,11 +62,12 @@ module _ (sheet map : List ℕ) (b : Built sheet map) where
   pub opens : faultOf (hasFace rs) map ≡ []
   opens = ap (faultOf (hasFace rs)) is ∙ built-opens rs root within
 
-  pub none-past : pastOf rs (rootCube (rootOf map)) ≡ []
-  none-past = rw root-is (known .none)
+  -- looking up in it is refused for a position that is not in the root, and for nothing else
+  pub can-look-up : (p : Point) → holdsPoint (rootCube (rootOf map)) p ≡ true → CanLookUp sheet map p
+  can-look-up p inside = record { good = told .0; opens = opens; over-root = rw root-is (known .none); inside = inside }
 
   -- each leaf is that of the cube at its own place
-  pub leaf-there : (i : ℕ) → i < length (leavesOf map) → leafOf map i ≡ leafOfCube rs (cubeOf map i)
+  pub leaf-there : (i : ℕ) → i < length (leavesOf map) → nthLeaf map i ≡ leafOf rs (nthCube map i)
   leaf-there i h = rw (leaves-are, root-is) (leaf-is rs root within i (rw leaves-are at h))
 
   pub the-map : TheMap sheet map b
@@ -71,7 +76,7 @@ module _ (sheet map : List ℕ) (b : Built sheet map) where
     is = is;
     root = root-is;
     size = known .size ∙ map-length root (all rs root within) ∙ rw leaves-are;
-    later = later-stay (b .size) (builtMap rs root) (b .before) (b .after) (known .size) (known .bytes);
+    later-stay = later-stay (b .size) (builtMap rs root) (b .before) (b .after) (known .size) (known .bytes);
     opens = opens;
     leaf = leaf-there;
   }

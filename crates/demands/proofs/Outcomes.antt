@@ -1,7 +1,9 @@
--- Demand 1: each public call has one outcome and no second, and a refusal of building leaves the lent buffer as it was. Assumes nothing.
-use mathlib.Core.Path.{_≡_, refl}
+-- What building answers: code 0 exactly where no row of the table refuses, and where one does the lent buffer is as it was. Assumes nothing.
+use mathlib.Core.Path.{_≡_, refl, sym, ap}
 use mathlib.Core.List.{List, [], _∷_}
 use Prim.Native.Nat.{ℕ}
+use native.Mathlib.Omega.{arith}
+use borrow.Author.Tests.{le-ltb}
 use lib.Dec.{ltb}
 use lib.ListN.{length}
 use Rattle.integers.specs.First.{onFirst}
@@ -10,20 +12,22 @@ use Rattle.sheet.specs.declared.Record.{Record}
 use Rattle.sheet.specs.declared.Checked.{Checked}
 use Rattle.sheet.specs.declared.Checked.the-variants.{Good, Refused}
 use Rattle.sheet.specs.Records.{recordsOf}
-use Rattle.sheet.specs.Check.{checkOf}
+use Rattle.sheet.specs.declared.Refusal.{Refusal}
+use Rattle.sheet.specs.declared.Refusal.the-variants.{Length, Version, Operand, Solid, Record as BadRecord}
+use Rattle.sheet.specs.Check.{checkOf, codeOf as codeOfSheet}
 use Rattle.cube.specs.declared.Root.{Root}
 use Rattle.cube.specs.Limits.{inLimits}
 use Rattle.cube.specs.Cubes.{rootCube}
 use Rattle.colour.specs.Entries.{pastOf}
-use Rattle.build.specs.declared.Reply.the-variants.{OverRoot, OverSmaller}
+use Rattle.build.specs.declared.Reply.{Reply}
+use Rattle.build.specs.declared.Reply.the-variants.{Done, Sheet, Limits, OverRoot, OverSmaller, Short}
 use Rattle.build.specs.Solid.{pastsOf}
+use Rattle.build.proofs.Answers.{done-made}
 use Rattle.build.specs.Build.{Outcome, outcome, builtMap, storedOf, solidOf, onSheet, buildOf, codeOf}
-use Rattle.lookup.specs.Lookup.{lookupOf}
-use Rattle.zone.specs.Replies.{zoneBuildOf, zoneLookupOf}
-use Rattle.demands.specs.Demands.{ExactlyOne, Demand1}
+use Rattle.demands.specs.Terms.{ExactlyOne, CanBuild}
 
 -- what an equation lets in is one
-alone : {A : Type 0} (one : A) → ExactlyOne (λ (other : A). other ≡ one)
+pub alone : {A : Type 0} (one : A) → ExactlyOne (λ (other : A). other ≡ one)
 alone one = record { one = one; fits = refl; no-second = λ other e. e }
 
 module _ (before : List ℕ) where
@@ -56,15 +60,38 @@ module _ (before : List ℕ) where
   sheet-kept (Good n) rs root = solid-kept rs root
   sheet-kept (Refused why) rs root = λ _. refl
 
-  build-kept : (sheet : List ℕ) (root : Root) → Kept (buildOf sheet root before)
+  pub unchanged : (sheet : List ℕ) (root : Root) → Kept (buildOf sheet root before)
   unfolding buildOf
-  build-kept sheet root = sheet-kept (checkOf sheet) (recordsOf sheet) root
+  unchanged sheet root = sheet-kept (checkOf sheet) (recordsOf sheet) root
 
-pub demand-1 : Demand1
-demand-1 = record {
-  building = λ sheet root before. alone (buildOf sheet root before);
-  looking-up = λ sheet map p. alone (lookupOf sheet map p);
-  zone-build = λ sheet root before. alone (zoneBuildOf sheet root before);
-  zone-lookup = λ sheet map p. alone (zoneLookupOf sheet map p);
-  unchanged = λ sheet root before. build-kept before sheet root;
-}
+-- ---- done exactly where all is fine
+-- no refusal of a sheet has code 0
+pub sheet-code : (why : Refusal) → codeOfSheet why ≡ 0 → ⊥
+sheet-code Length e = omega arith
+sheet-code Version e = omega arith
+sheet-code (BadRecord at) e = omega arith
+sheet-code (Operand n) e = omega arith
+sheet-code (Solid n) e = omega arith
+
+-- code 0 is that of `Done` alone
+code-done : (r : Reply) → codeOf r ≡ 0 → (n : ℕ) × (r ≡ Done n)
+code-done (Done n) e = (n, refl)
+code-done (Sheet why) e = absurd (sheet-code why e)
+code-done Limits e = absurd (omega arith)
+code-done (OverRoot n) e = absurd (omega arith)
+code-done (OverSmaller n) e = absurd (omega arith)
+code-done (Short n) e = absurd (omega arith)
+
+module _ (sheet : List ℕ) (root : Root) (before : List ℕ) where
+  abbrev told : Outcome
+  told = buildOf sheet root before
+
+  pub builds : CanBuild sheet root before → codeOf (told .reply) ≡ 0
+  unfolding buildOf solidOf storedOf
+  builds f = rw (f .good .1, f .limits, f .over-root, f .over-smaller, le-ltb (length before) (length (builtMap (recordsOf sheet) root)) (f .room))
+
+  pub builds-only : codeOf (told .reply) ≡ 0 → CanBuild sheet root before
+  builds-only e =
+      let d = code-done (told .reply) e in
+      let t = done-made sheet root before (told .buffer) (d .0) (ap (λ (r : Reply). outcome r (told .buffer)) (sym (d .1))) in
+      record { good = t .0; limits = t .1 .within; over-root = t .1 .none; over-smaller = t .1 .below; room = omega (arith, t .1 .size, t .1 .room) }

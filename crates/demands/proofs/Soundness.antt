@@ -1,6 +1,6 @@
 -- Demand 3: a point in a leaf's closed cube agrees with the leaf, so that no white leaf touches a black one. Assumes nothing.
 use mathlib.Core.Path.{_≡_, sym, _∙_}
-use mathlib.Core.Bool.{true, not, true≢false}
+use mathlib.Core.Bool.{true, true≢false}
 use mathlib.Core.List.{List}
 use Prim.Native.Nat.{ℕ, _-_}
 use native.Mathlib.Omega.{arith}
@@ -16,9 +16,10 @@ use Rattle.colour.specs.declared.State.{State}
 use Rattle.colour.specs.declared.State.the-variants.{Out, In, Single, Comp, Mixed}
 use Rattle.soundness.specs.Claims.{Sound}
 use Rattle.soundness.proofs.StatesSound.{states-sound}
-use Rattle.build.specs.Solid.{solidState, leafBy, leafOf as leafOfCube}
+use Rattle.build.specs.Solid.{solidState, leafBy, leafOf}
 use Rattle.roundtrip.proofs.Named.{solid-good}
-use Rattle.demands.specs.Demands.{Built, leafOf, cubeOf, Touches, Agrees}
+use Rattle.demands.specs.Terms.{Built, nthLeaf, nthCube, Touches}
+use Rattle.demands.specs.Demands.{Agrees}
 use Rattle.demands.proofs.Maps.{leaf-there}
 
 other-class : {A : Type 0} (a b : ℕ) → (a ≡ b → ⊥) → a ≡ b → A
@@ -60,14 +61,14 @@ module _ (rs : List Record) (p : FractionalPoint) where
   }
 
   -- the leaf of a cube agrees with each point of the closed cube
-  cube-agrees : (q : Cube) → InClosed q p → Agrees rs (leafOfCube rs q) p
-  unfolding leafOfCube solidState inSolid
+  cube-agrees : (q : Cube) → InClosed q p → Agrees rs (leafOf rs q) p
+  unfolding leafOf solidState inSolid
   cube-agrees q h = class-says (q .level) (solidState rs q) (states-sound q p h rs (length rs - 1)) (solid-good rs (q .level) q)
 
-pub agrees : (sheet map : List ℕ) → Built sheet map → (p : FractionalPoint) (i : ℕ) → Touches map p i → Agrees (recordsOf sheet) (leafOf map i) p
-agrees sheet map b p i t = rw (leaf-there sheet map b i (t .among)) (cube-agrees (recordsOf sheet) p (cubeOf map i) (t .closed))
+pub agrees : (sheet map : List ℕ) → Built sheet map → (p : FractionalPoint) (i : ℕ) → Touches map p i → Agrees (recordsOf sheet) (nthLeaf map i) p
+agrees sheet map b p i t = rw (leaf-there sheet map b i (t .among)) (cube-agrees (recordsOf sheet) p (nthCube map i) (t .closed))
 
 pub no-touch : (sheet one other : List ℕ) → Built sheet one → Built sheet other → (p : FractionalPoint) (i j : ℕ)
-    → leafOf one i .class ≡ 0 → leafOf other j .class ≡ 1 → Touches one p i → Touches other p j → ⊥
+    → nthLeaf one i .class ≡ 0 → nthLeaf other j .class ≡ 1 → Touches one p i → Touches other p j → ⊥
 no-touch sheet one other b c p i j white black t u =
     true≢false (sym (agrees sheet other c p j u .black black) ∙ agrees sheet one b p i t .white white)

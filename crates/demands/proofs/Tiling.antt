@@ -12,7 +12,7 @@ use Rattle.meaning.specs.Fractions.{FractionalPoint, InClosed}
 use Rattle.meaning.proofs.Cover.{beside-point, beside-held, beside-closed}
 use Rattle.zonemap.specs.Opening.{rootOf, faultOf}
 use Rattle.zonemap.proofs.Tiling.{one, in-one, only-one}
-use Rattle.demands.specs.Demands.{ExactlyOne, cubeOf, Holds, Touches}
+use Rattle.demands.specs.Terms.{ExactlyOne, nthCube, Holds, Touches}
 
 root-side : (r : Root) → 0 < rootCube r .side
 unfolding rootCube
@@ -34,4 +34,4 @@ module _ (named : ℕ → Bool) (map : List ℕ) (opens : faultOf named map ≡ 
   covering p h =
       let positive = root-side (rootOf map) in
       let t = tiling (beside-point _ p positive h) (beside-held _ p positive h) in
-      (t .one, record { among = t .fits .among; closed = beside-closed _ p positive h (cubeOf map (t .one)) (t .fits .held) })
+      (t .one, record { among = t .fits .among; closed = beside-closed _ p positive h (nthCube map (t .one)) (t .fits .held) })

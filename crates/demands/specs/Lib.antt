@@ -1,2 +1,4 @@
+pub mod Terms
 pub mod Rows
 pub mod Demands
+pub mod Contract

@@ -7,7 +7,7 @@ use borrow.Author.Tests.{leb-true, leb-false}
 use lib.Dec.{leb}
 use lib.IntN.{ℤ, pos, natAbs, _+ℤ_, _-ℤ_, _*ℤ_}
 use lib.Signed.{_≤ℤ_}
-use Rattle.integers.proofs.Naturals.{ints, +-is, minus-is, *-is, abs-is}
+use Rattle.integers.proofs.Naturals.{ints, +-is}
 use Rattle.integers.proofs.Ring.{+-*}
 use Rattle.integers.proofs.Order.{≤-trans, by-test, scale-keeps}
 use Rattle.cube.specs.declared.Point.{Point}

@@ -1,7 +1,7 @@
 -- Bounds over a closed cube hold the value of each record at every point of it, fractions included. Assumes nothing.
 use mathlib.Core.Path.{_≡_, ap, _∙_}
 use mathlib.Core.List.{List}
-use Prim.Native.Nat.{ℕ, _+_, _*_, _^_}
+use Prim.Native.Nat.{ℕ, _*_, _^_}
 use native.Mathlib.Nat.{mul-comm, one-mul, pow-zero, pow-suc}
 use lib.IntN.{ℤ, pos, _*ℤ_}
 use lib.ListN.{getD}

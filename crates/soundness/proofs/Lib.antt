@@ -1,2 +1,3 @@
 pub mod BoundsHold
 pub mod StatesSound
+pub mod Substitutes

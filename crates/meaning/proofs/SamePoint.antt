@@ -1,0 +1,151 @@
+-- A point is where it is, however its fractions are written: whether a record holds there does not depend on the denominator. Assumes nothing.
+use mathlib.Core.Path.{_≡_, refl, sym, ap, ap₂, _∙_}
+use mathlib.Core.Bool.{false, not, _&&_, _||_, true≢false}
+use mathlib.Core.List.{List}
+use Prim.Native.Nat.{ℕ, zero, suc, _+_, _*_, _^_, _<_}
+use native.Mathlib.Nat.{add-comm, mul-comm, mul-pos, one-le-pow, one-mul, pow-zero, pow-suc}
+use native.Mathlib.Omega.{arith}
+use lib.IntN.{ℤ, pos, negsuc, _+ℤ_, _-ℤ_, _*ℤ_}
+use lib.Pow.{pow-add}
+use lib.Signed.{leZ, _<ℤ_}
+use Rattle.integers.proofs.Naturals.{<-out}
+use Rattle.integers.proofs.Ring.{times-one, +-*, minus-*, regroup}
+use Rattle.integers.proofs.Order.{by-test, leZ-true, le-test, gt-test, at-most-zero, above-zero}
+use Rattle.sheet.specs.declared.Record.{Record}
+use Rattle.sheet.specs.declared.Record.the-variants.{Constant, X, Y, Z, Sum, Difference, Product, Square, Face, Both, Either, Complement}
+use Rattle.sheet.proofs.Along.{Pairs, related}
+use Rattle.meaning.specs.Fractions.{FractionalPoint}
+use Rattle.meaning.specs.Truth.{Value, over, raised, plus, minus, times, atMostZero, Meant, absent, valueOf, holdsOf, meantOf, holdsAt}
+
+-- ---- numbers
+mul-pow : (n m k : ℕ) → (n * m) ^ k ≡ n ^ k * m ^ k
+mul-pow n m zero = rw (pow-zero (n * m), pow-zero n, pow-zero m)
+mul-pow n m (suc k) = rw (pow-suc (n * m) k, pow-suc n k, pow-suc m k, mul-pow n m k) (omega arith)
+
+above : (a : ℤ) → leZ a (pos 0) ≡ false → pos 0 <ℤ a
+above (pos zero) e = absurd (true≢false e)
+above (pos (suc a)) e = <-out (pos 0) (pos (suc a)) (omega arith)
+above (negsuc a) e = absurd (true≢false e)
+
+-- a number and its positive multiple are on one side of 0
+same-sign : (a : ℤ) (n : ℕ) → 0 < n → leZ (a *ℤ pos n) (pos 0) ≡ leZ a (pos 0)
+same-sign a n h =
+    by-test (leZ a (pos 0))
+    (λ t. rw t (le-test (a *ℤ pos n) (pos 0) (at-most-zero a n (leZ-true a (pos 0) t))))
+    (λ t. rw t (gt-test (a *ℤ pos n) (pos 0) (above-zero a n (above a t) h)))
+
+-- ---- numerators and denominator m times as large
+module _ (m : ℕ) (positive : 0 < m) where
+  -- values over n and over n m: the same power, and the numerator so many times as large
+  record Same (v w : Value) : Type 0 where
+    power : w .power ≡ v .power
+    numerator : w .numerator ≡ v .numerator *ℤ pos (m ^ v .power)
+
+  alone : (c : ℤ) → Same (over c 0) (over c 0)
+  alone c = record { power = refl; numerator = sym (ap (λ (k : ℕ). c *ℤ pos k) (pow-zero m) ∙ times-one c) }
+
+  moved : (a : ℤ) → Same (over a 1) (over (a *ℤ pos m) 1)
+  moved a = record { power = refl; numerator = ap (λ (k : ℕ). a *ℤ pos k) (sym (pow-suc m 0 ∙ ap (λ (k : ℕ). k * m) (pow-zero m) ∙ one-mul m)) }
+
+  -- one numerator brought to a greater power
+  brought : (n : ℕ) (a : ℤ) (i j : ℕ) → (a *ℤ pos (m ^ i)) *ℤ pos ((n * m) ^ j) ≡ (a *ℤ pos (n ^ j)) *ℤ pos (m ^ (i + j))
+  brought n a i j = rw (mul-pow n m j, pow-add m i j) (regroup a (pos (n ^ j)) (pos (m ^ i)) (pos (m ^ j)))
+
+  module _ (n : ℕ) (v w v′ w′ : Value) (h : Same v v′) (k : Same w w′) where
+    abbrev i : ℕ
+    i = v .power
+
+    abbrev j : ℕ
+    j = w .power
+
+    powers : v′ .power + w′ .power ≡ i + j
+    powers = ap₂ _+_ (h .power) (k .power)
+
+    first : v′ .numerator *ℤ pos ((n * m) ^ w′ .power) ≡ (v .numerator *ℤ pos (n ^ j)) *ℤ pos (m ^ (i + j))
+    first = rw (h .numerator, k .power) (brought n (v .numerator) i j)
+
+    second : w′ .numerator *ℤ pos ((n * m) ^ v′ .power) ≡ (w .numerator *ℤ pos (n ^ i)) *ℤ pos (m ^ (i + j))
+    second = rw (k .numerator, h .power, add-comm i j) (brought n (w .numerator) j i)
+
+    plus-same : Same (plus n v w) (plus (n * m) v′ w′)
+    plus-same = record { power = powers; numerator = ap₂ _+ℤ_ first second ∙ sym (+-* (raised n v j) (raised n w i) (pos (m ^ (i + j)))) }
+
+    minus-same : Same (minus n v w) (minus (n * m) v′ w′)
+    minus-same = record { power = powers; numerator = ap₂ _-ℤ_ first second ∙ sym (minus-* (raised n v j) (raised n w i) (pos (m ^ (i + j)))) }
+
+    times-same : Same (times v w) (times v′ w′)
+    times-same = record {
+      power = powers;
+      numerator = ap₂ _*ℤ_ (h .numerator) (k .numerator) ∙ regroup (v .numerator) (w .numerator) (pos (m ^ i)) (pos (m ^ j)) ∙ ap (λ (e : ℕ). (v .numerator *ℤ w .numerator) *ℤ pos e) (sym (pow-add m i j));
+    }
+
+  face-same : (v w : Value) → Same v w → atMostZero v ≡ atMostZero w
+  face-same v w h = sym (ap (λ (a : ℤ). leZ a (pos 0)) (h .numerator) ∙ same-sign (v .numerator) (m ^ v .power) (one-le-pow (v .power) m positive))
+
+  -- ---- all records
+  -- the point q is p with numerators and denominator m times as large
+  record Multiplied (p q : FractionalPoint) : Type 0 where
+    x : q .x ≡ p .x *ℤ pos m
+    y : q .y ≡ p .y *ℤ pos m
+    z : q .z ≡ p .z *ℤ pos m
+    n : q .n ≡ p .n * m
+
+  module _ (p q : FractionalPoint) (by-m : Multiplied p q) where
+    record SameMeant (a b : Meant) : Type 0 where
+      value : Same (a .value) (b .value)
+      holds : a .holds ≡ b .holds
+
+    abbrev here : List Meant → Record → Meant
+    here = meantOf p
+
+    abbrev there : List Meant → Record → Meant
+    there = meantOf q
+
+    step-value : (ms ns : List Meant) (r : Record) → Pairs SameMeant absent absent ms ns → Same (here ms r .value) (there ns r .value)
+    unfolding meantOf valueOf
+    step-value ms ns (Constant c) e = alone c
+    step-value ms ns X e = rw (by-m .x) (moved (p .x))
+    step-value ms ns Y e = rw (by-m .y) (moved (p .y))
+    step-value ms ns Z e = rw (by-m .z) (moved (p .z))
+    step-value ms ns (Sum a b) e = rw (by-m .n) (plus-same (p .n) _ _ _ _ (e .each a .value) (e .each b .value))
+    step-value ms ns (Difference a b) e = rw (by-m .n) (minus-same (p .n) _ _ _ _ (e .each a .value) (e .each b .value))
+    step-value ms ns (Product a b) e = times-same (p .n) _ _ _ _ (e .each a .value) (e .each b .value)
+    step-value ms ns (Square a) e = times-same (p .n) _ _ _ _ (e .each a .value) (e .each a .value)
+    step-value ms ns (Face a) e = alone (pos 0)
+    step-value ms ns (Both a b) e = alone (pos 0)
+    step-value ms ns (Either a b) e = alone (pos 0)
+    step-value ms ns (Complement a) e = alone (pos 0)
+
+    step-holds : (ms ns : List Meant) (r : Record) → Pairs SameMeant absent absent ms ns → here ms r .holds ≡ there ns r .holds
+    unfolding meantOf holdsOf
+    step-holds ms ns (Constant c) e = refl
+    step-holds ms ns X e = refl
+    step-holds ms ns Y e = refl
+    step-holds ms ns Z e = refl
+    step-holds ms ns (Sum a b) e = refl
+    step-holds ms ns (Difference a b) e = refl
+    step-holds ms ns (Product a b) e = refl
+    step-holds ms ns (Square a) e = refl
+    step-holds ms ns (Face a) e = face-same _ _ (e .each a .value)
+    step-holds ms ns (Both a b) e = ap₂ _&&_ (e .each a .holds) (e .each b .holds)
+    step-holds ms ns (Either a b) e = ap₂ _||_ (e .each a .holds) (e .each b .holds)
+    step-holds ms ns (Complement a) e = ap not (e .each a .holds)
+
+    same-holds : (rs : List Record) (i : ℕ) → holdsAt rs i p ≡ holdsAt rs i q
+    unfolding holdsAt
+    same-holds rs i =
+        related SameMeant absent absent (record { value = alone (pos 0); holds = refl }) here there
+        (λ ms ns r e. record { value = step-value ms ns r e; holds = step-holds ms ns r e }) rs .each i .holds
+
+-- ---- one point, written in two ways
+pub record SamePoint (p q : FractionalPoint) : Type 0 where
+  pub x : p .x *ℤ pos (q .n) ≡ q .x *ℤ pos (p .n)
+  pub y : p .y *ℤ pos (q .n) ≡ q .y *ℤ pos (p .n)
+  pub z : p .z *ℤ pos (q .n) ≡ q .z *ℤ pos (p .n)
+
+-- a record holds at both or at neither
+pub same-point : (p q : FractionalPoint) → SamePoint p q → (rs : List Record) (i : ℕ) → holdsAt rs i p ≡ holdsAt rs i q
+same-point p q e rs i =
+    let common : FractionalPoint = record { x = p .x *ℤ pos (q .n); y = p .y *ℤ pos (q .n); z = p .z *ℤ pos (q .n); n = p .n * q .n; positive = mul-pos (p .positive) (q .positive) } in
+    same-holds (q .n) (q .positive) p common (record { x = refl; y = refl; z = refl; n = refl }) rs i
+    ∙ sym (same-holds (p .n) (p .positive) q common (record { x = e .x; y = e .y; z = e .z; n = mul-comm (p .n) (q .n) }) rs i)

@@ -73,7 +73,7 @@ filling-start s q =
     }
 
 -- a class and a face are a state again
-back-again : (k : State) → stateBy (classOf k) (faceOf k) ≡ k
+pub back-again : (k : State) → stateBy (classOf k) (faceOf k) ≡ k
 unfolding stateBy
 back-again Out = refl
 back-again In = refl

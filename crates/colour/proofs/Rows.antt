@@ -9,7 +9,7 @@ use Rattle.sheet.specs.declared.Record.{Record}
 use Rattle.sheet.specs.declared.Record.the-variants.{Constant, X, Difference, Product, Square}
 use Rattle.sheet.specs.Along.{along, onward}
 use Rattle.cube.specs.declared.Cube.{Cube}
-use Rattle.colour.specs.declared.State.the-variants.{In, Out, Single}
+use Rattle.colour.specs.declared.State.the-variants.{In, Out, Single, Mixed}
 use Rattle.colour.specs.Bounds.{across, boundsOf}
 use Rattle.colour.specs.States.{faceState, bothOf, stateOf}
 use Rattle.colour.specs.Entries.{blank, entryOf, entries}
@@ -54,3 +54,8 @@ out-row = refl
 pub left-row : bothOf In (Single 6) ≡ Single 6
 unfolding bothOf
 left-row = refl
+
+-- two faces that are both left are Mixed: neither of them alone says what both do
+pub two-left-row : bothOf (Single 5) (Single 6) ≡ Mixed
+unfolding bothOf
+two-left-row = refl

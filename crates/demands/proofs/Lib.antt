@@ -8,3 +8,4 @@ pub mod Rows
 pub mod Kept
 pub mod Contracts
 pub mod Returns
+pub mod Substitutes

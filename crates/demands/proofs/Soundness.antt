@@ -1,9 +1,9 @@
 -- Demand 3: a point in a leaf's closed cube agrees with the leaf, so that no white leaf touches a black one. Assumes nothing.
 use mathlib.Core.Path.{_≡_, sym, _∙_}
-use mathlib.Core.Bool.{true, true≢false}
+use mathlib.Core.Bool.{true, cond, _||_, true≢false}
 use mathlib.Core.List.{List}
 use Prim.Native.Nat.{ℕ, _-_}
-use native.Mathlib.Omega.{arith}
+use lib.Dec.{eqb}
 use lib.ListN.{length}
 use Rattle.sheet.specs.declared.Record.{Record}
 use Rattle.sheet.specs.Records.{recordsOf}
@@ -13,7 +13,8 @@ use Rattle.meaning.specs.Fractions.{FractionalPoint, InClosed}
 use Rattle.meaning.specs.Truth.{holdsAt, inSolid}
 use Rattle.zonemap.specs.Opening.{faceGood}
 use Rattle.colour.specs.declared.State.{State}
-use Rattle.colour.specs.declared.State.the-variants.{Out, In, Single, Comp, Mixed}
+use Rattle.colour.specs.States.{classOf, faceOf, stateBy}
+use Rattle.colour.proofs.Filling.{back-again}
 use Rattle.soundness.specs.Claims.{Sound}
 use Rattle.soundness.proofs.StatesSound.{states-sound}
 use Rattle.build.specs.Solid.{solidState, leafBy, leafOf}
@@ -22,43 +23,19 @@ use Rattle.demands.specs.Terms.{Built, nthLeaf, nthCube, Touches}
 use Rattle.demands.specs.Demands.{Agrees}
 use Rattle.demands.proofs.Maps.{leaf-there}
 
-other-class : {A : Type 0} (a b : ℕ) → (a ≡ b → ⊥) → a ≡ b → A
-other-class a b n e = absurd (n e)
-
 module _ (rs : List Record) (p : FractionalPoint) where
   -- the class of a state says what the state does
-  class-says : (level : ℕ) (s : State) → Sound (λ f. holdsAt rs f p) s (inSolid rs p) → faceGood (hasFace rs) (leafBy level s) ≡ true → Agrees rs (leafBy level s) p
-  unfolding Sound faceGood
-  class-says level Out h g = record {
-    white = λ _. h;
-    black = other-class 0 1 (λ e. omega arith);
-    terminal = other-class 0 2 (λ e. omega arith);
-    complement = other-class 0 3 (λ e. omega arith);
-  }
-  class-says level In h g = record {
-    white = other-class 1 0 (λ e. omega arith);
-    black = λ _. h;
-    terminal = other-class 1 2 (λ e. omega arith);
-    complement = other-class 1 3 (λ e. omega arith);
-  }
-  class-says level (Single f) h g = record {
-    white = other-class 2 0 (λ e. omega arith);
-    black = other-class 2 1 (λ e. omega arith);
-    terminal = λ _. (g, h);
-    complement = other-class 2 3 (λ e. omega arith);
-  }
-  class-says level (Comp f) h g = record {
-    white = other-class 3 0 (λ e. omega arith);
-    black = other-class 3 1 (λ e. omega arith);
-    terminal = other-class 3 2 (λ e. omega arith);
-    complement = λ _. (g, h);
-  }
-  class-says level Mixed h g = record {
-    white = other-class 4 0 (λ e. omega arith);
-    black = other-class 4 1 (λ e. omega arith);
-    terminal = other-class 4 2 (λ e. omega arith);
-    complement = other-class 4 3 (λ e. omega arith);
-  }
+  module _ (level : ℕ) (s : State) (h : Sound (λ f. holdsAt rs f p) s (inSolid rs p)) (g : faceGood (hasFace rs) (leafBy level s) ≡ true) where
+    says : (class : ℕ) → classOf s ≡ class → Sound (λ f. holdsAt rs f p) (stateBy class (faceOf s)) (inSolid rs p)
+    says class e = rw (← e, back-again s) h
+
+    named : (class : ℕ) → classOf s ≡ class → cond (eqb class 2 || eqb class 3) (hasFace rs (faceOf s)) (eqb (faceOf s) 0) ≡ true
+    unfolding faceGood
+    named class e = rw (← e) g
+
+    class-says : Agrees rs (leafBy level s) p
+    unfolding Sound stateBy
+    class-says = record { white = says 0; black = says 1; terminal = λ e. (named 2 e, says 2 e); complement = λ e. (named 3 e, says 3 e) }
 
   -- the leaf of a cube agrees with each point of the closed cube
   cube-agrees : (q : Cube) → InClosed q p → Agrees rs (leafOf rs q) p

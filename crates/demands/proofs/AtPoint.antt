@@ -1,15 +1,14 @@
 -- At a whole point a face's state over the cube of side 0 says whether the face holds there. Assumes nothing.
 use mathlib.Core.Path.{_≡_, refl, sym, ap, _∙_}
-use mathlib.Core.Bool.{Bool, true, false, cond, not, true≢false}
+use mathlib.Core.Bool.{Bool, true, cond, true≢false}
 use mathlib.Core.List.{List, [], _∷_, _++_}
 use Prim.Native.Nat.{ℕ, zero, suc, _<_}
 use native.Mathlib.Omega.{arith}
-use lib.Dec.{T}
 use lib.IntN.{ℤ, pos}
 use lib.ListN.{length, getD, take, drop}
 use lib.Seq.{split-at, length-take-le}
-use lib.Signed.{leZ, ltZ, ltZ-no}
-use Rattle.integers.proofs.Order.{by-test, le-test}
+use lib.Signed.{leZ, ltZ}
+use Rattle.integers.proofs.Order.{by-test, T-true, leZ-above}
 use Rattle.interval.specs.declared.Interval.{Interval}
 use Rattle.interval.specs.Rules.{only}
 use Rattle.sheet.specs.declared.Record.{Record}
@@ -59,12 +58,7 @@ face-among (r ∷ rs) (suc f) e = omega (arith, face-among rs f e)
 -- ---- over one number a face is In or Out
 point-state : (v : ℤ) (f : ℕ) → faceState (only v) f ≡ cond (leZ v (pos 0)) In Out
 unfolding faceState
-point-state v f =
-    by-test (leZ v (pos 0)) (λ t. rw t)
-    (λ t. by-test (ltZ (pos 0) v) (λ u. rw (t, u)) (λ u. absurd (true≢false (sym (le-test v (pos 0) (ltZ-no (not-true _ u))) ∙ t))))
-  where
-    not-true : (b : Bool) → b ≡ false → T (not b)
-    not-true b e = rw e tt
+point-state v f = by-test (leZ v (pos 0)) (λ t. rw t) (λ t. rw (t, T-true (ltZ (pos 0) v) (leZ-above v (pos 0) t .lt)))
 
 -- so that it says whether the face holds
 told : (face : ℕ → Bool) (v : ℤ) (f : ℕ) (b : Bool) → Sound face (faceState (only v) f) b → isIn (faceState (only v) f) ≡ b

@@ -1,5 +1,6 @@
 pub mod Naturals
 pub mod Ring
+pub mod Powers
 pub mod Order
 pub mod Least
 pub mod Machine

@@ -36,11 +36,14 @@ T-true false t = absurd t
 pub leZ-true : (a b : ℤ) → leZ a b ≡ true → a ≤ℤ b
 leZ-true a b p = record { le = rw p tt }
 
+pub leZ-above : (a b : ℤ) → leZ a b ≡ false → b <ℤ a
+leZ-above (pos a) (pos b) p = <-out (pos b) (pos a) (omega (arith, leb-false))
+leZ-above (pos a) (negsuc b) p = <-out (negsuc b) (pos a) (omega arith)
+leZ-above (negsuc a) (pos b) p = absurd (true≢false p)
+leZ-above (negsuc a) (negsuc b) p = <-out (negsuc b) (negsuc a) (omega (arith, leb-false))
+
 pub leZ-false : (a b : ℤ) → leZ a b ≡ false → b ≤ℤ a
-leZ-false (pos a) (pos b) p = ≤-out (pos b) (pos a) (omega (arith, leb-false))
-leZ-false (pos a) (negsuc b) p = ≤-out (negsuc b) (pos a) (omega arith)
-leZ-false (negsuc a) (pos b) p = absurd (true≢false p)
-leZ-false (negsuc a) (negsuc b) p = ≤-out (negsuc b) (negsuc a) (omega (arith, leb-false))
+leZ-false a b p = omega (arith, ints, leZ-above a b p)
 
 pub ltZ-true : (a b : ℤ) → ltZ a b ≡ true → a <ℤ b
 ltZ-true a b p = record { lt = rw p tt }
@@ -90,6 +93,13 @@ at-most-zero a n h = rw zero-*ℤ at (scale-keeps n a (pos 0) h)
 pub above-zero : (a : ℤ) (n : ℕ) → pos 0 <ℤ a → 0 < n → pos 0 <ℤ (a *ℤ pos n)
 above-zero (pos a) n h k = <-out (pos 0) (pos (a * n)) (omega (arith, mul-pos {m = a} {n = n} (omega (arith, <-in (pos 0) (pos a) h)) k))
 above-zero (negsuc a) n h k = absurd (h .lt)
+
+-- a number and its positive multiple are on one side of 0
+pub same-sign : (a : ℤ) (n : ℕ) → 0 < n → leZ (a *ℤ pos n) (pos 0) ≡ leZ a (pos 0)
+same-sign a n h =
+    by-test (leZ a (pos 0))
+    (λ t. rw t (le-test (a *ℤ pos n) (pos 0) (at-most-zero a n (leZ-true a (pos 0) t))))
+    (λ t. rw t (gt-test (a *ℤ pos n) (pos 0) (above-zero a n (leZ-above a (pos 0) t) h)))
 
 -- a bound of n-th parts, over a scale that is m times finer
 pub finer-low : (a b : ℤ) (n m : ℕ) → (a *ℤ pos n) ≤ℤ b → (a *ℤ pos (n * m)) ≤ℤ (b *ℤ pos m)

@@ -1,38 +1,20 @@
 -- A point is where it is, however its fractions are written: whether a record holds there does not depend on the denominator. Assumes nothing.
 use mathlib.Core.Path.{_≡_, refl, sym, ap, ap₂, _∙_}
-use mathlib.Core.Bool.{false, not, _&&_, _||_, true≢false}
+use mathlib.Core.Bool.{not, _&&_, _||_}
 use mathlib.Core.List.{List}
-use Prim.Native.Nat.{ℕ, zero, suc, _+_, _*_, _^_, _<_}
-use native.Mathlib.Nat.{add-comm, mul-comm, mul-pos, one-le-pow, one-mul, pow-zero, pow-suc}
-use native.Mathlib.Omega.{arith}
-use lib.IntN.{ℤ, pos, negsuc, _+ℤ_, _-ℤ_, _*ℤ_}
+use Prim.Native.Nat.{ℕ, _+_, _*_, _^_, _<_}
+use native.Mathlib.Nat.{add-comm, mul-comm, mul-pos, one-le-pow}
+use lib.IntN.{ℤ, pos, _+ℤ_, _-ℤ_, _*ℤ_}
 use lib.Pow.{pow-add}
-use lib.Signed.{leZ, _<ℤ_}
-use Rattle.integers.proofs.Naturals.{<-out}
-use Rattle.integers.proofs.Ring.{times-one, +-*, minus-*, regroup}
-use Rattle.integers.proofs.Order.{by-test, leZ-true, le-test, gt-test, at-most-zero, above-zero}
+use lib.Signed.{leZ}
+use Rattle.integers.proofs.Ring.{+-*, minus-*, regroup}
+use Rattle.integers.proofs.Powers.{pow-one, mul-pow, times-none}
+use Rattle.integers.proofs.Order.{same-sign}
 use Rattle.sheet.specs.declared.Record.{Record}
 use Rattle.sheet.specs.declared.Record.the-variants.{Constant, X, Y, Z, Sum, Difference, Product, Square, Face, Both, Either, Complement}
 use Rattle.sheet.proofs.Along.{Pairs, related}
 use Rattle.meaning.specs.Fractions.{FractionalPoint}
 use Rattle.meaning.specs.Truth.{Value, over, raised, plus, minus, times, atMostZero, Meant, absent, valueOf, holdsOf, meantOf, holdsAt}
-
--- ---- numbers
-mul-pow : (n m k : ℕ) → (n * m) ^ k ≡ n ^ k * m ^ k
-mul-pow n m zero = rw (pow-zero (n * m), pow-zero n, pow-zero m)
-mul-pow n m (suc k) = rw (pow-suc (n * m) k, pow-suc n k, pow-suc m k, mul-pow n m k) (omega arith)
-
-above : (a : ℤ) → leZ a (pos 0) ≡ false → pos 0 <ℤ a
-above (pos zero) e = absurd (true≢false e)
-above (pos (suc a)) e = <-out (pos 0) (pos (suc a)) (omega arith)
-above (negsuc a) e = absurd (true≢false e)
-
--- a number and its positive multiple are on one side of 0
-same-sign : (a : ℤ) (n : ℕ) → 0 < n → leZ (a *ℤ pos n) (pos 0) ≡ leZ a (pos 0)
-same-sign a n h =
-    by-test (leZ a (pos 0))
-    (λ t. rw t (le-test (a *ℤ pos n) (pos 0) (at-most-zero a n (leZ-true a (pos 0) t))))
-    (λ t. rw t (gt-test (a *ℤ pos n) (pos 0) (above-zero a n (above a t) h)))
 
 -- ---- numerators and denominator m times as large
 module _ (m : ℕ) (positive : 0 < m) where
@@ -42,10 +24,10 @@ module _ (m : ℕ) (positive : 0 < m) where
     numerator : w .numerator ≡ v .numerator *ℤ pos (m ^ v .power)
 
   alone : (c : ℤ) → Same (over c 0) (over c 0)
-  alone c = record { power = refl; numerator = sym (ap (λ (k : ℕ). c *ℤ pos k) (pow-zero m) ∙ times-one c) }
+  alone c = record { power = refl; numerator = sym (times-none c m) }
 
   moved : (a : ℤ) → Same (over a 1) (over (a *ℤ pos m) 1)
-  moved a = record { power = refl; numerator = ap (λ (k : ℕ). a *ℤ pos k) (sym (pow-suc m 0 ∙ ap (λ (k : ℕ). k * m) (pow-zero m) ∙ one-mul m)) }
+  moved a = record { power = refl; numerator = ap (λ (k : ℕ). a *ℤ pos k) (sym (pow-one m)) }
 
   -- one numerator brought to a greater power
   brought : (n : ℕ) (a : ℤ) (i j : ℕ) → (a *ℤ pos (m ^ i)) *ℤ pos ((n * m) ^ j) ≡ (a *ℤ pos (n ^ j)) *ℤ pos (m ^ (i + j))

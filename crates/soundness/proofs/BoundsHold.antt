@@ -1,13 +1,12 @@
 -- Bounds over a closed cube hold the value of each record at every point of it, fractions included. Assumes nothing.
-use mathlib.Core.Path.{_≡_, ap, _∙_}
 use mathlib.Core.List.{List}
 use Prim.Native.Nat.{ℕ, _*_, _^_}
-use native.Mathlib.Nat.{mul-comm, one-mul, pow-zero, pow-suc}
-use lib.IntN.{ℤ, pos, _*ℤ_}
+use native.Mathlib.Nat.{mul-comm}
+use lib.IntN.{ℤ, pos}
 use lib.ListN.{getD}
 use lib.Pow.{pow-add}
 use lib.Signed.{≤ℤ-refl}
-use Rattle.integers.proofs.Ring.{times-one}
+use Rattle.integers.proofs.Powers.{pow-one, times-none}
 use Rattle.interval.specs.declared.Interval.{Interval}
 use Rattle.interval.specs.Claims.{Between}
 use Rattle.interval.specs.Rules.{only, sum, difference, product, square}
@@ -26,11 +25,11 @@ use Rattle.soundness.specs.Claims.{HoldsValue}
 module _ (n : ℕ) where
   -- a whole number
   alone : (c : ℤ) → HoldsValue n (only c) (over c 0)
-  alone c = let e = ap (λ (k : ℕ). c *ℤ pos k) (pow-zero n) ∙ times-one c in record { low = rw e (≤ℤ-refl c); high = rw e (≤ℤ-refl c) }
+  alone c = record { low = rw (times-none c n) (≤ℤ-refl c); high = rw (times-none c n) (≤ℤ-refl c) }
 
   between : (plane : ℤ) (side : ℕ) (a : ℤ) → BetweenPlanes plane side a n → HoldsValue n (across plane side) (over a 1)
   unfolding across
-  between plane side a h = let e : n ^ 1 ≡ n = pow-suc n 0 ∙ ap (λ (k : ℕ). k * n) (pow-zero n) ∙ one-mul n in rw e (record { low = h .low; high = h .high })
+  between plane side a h = rw (pow-one n) (record { low = h .low; high = h .high })
 
   module _ (i j : Interval) (v w : Value) (hv : HoldsValue n i v) (hw : HoldsValue n j w) where
     abbrev scale : ℕ

@@ -1,7 +1,7 @@
 -- What a map that building answers tells: its length is that of a map, it has room in the lent buffer, and its root is in limits. Assumes nothing.
 use mathlib.Core.Path.{_≡_, refl, ap, _∙_}
 use mathlib.Core.Bool.{Bool, true, false, true≢false}
-use mathlib.Core.List.{List, [], _∷_, _++_}
+use mathlib.Core.List.{List, [], _++_}
 use Prim.Native.Nat.{ℕ, _≤_}
 use native.Mathlib.Omega.{arith}
 use borrow.Author.Tests.{ltb-false}
@@ -21,6 +21,7 @@ use Rattle.build.specs.declared.Reply.the-variants.{Done, Sheet, Limits,
 use Rattle.colour.specs.Entries.{pastOf}
 use Rattle.build.specs.Solid.{pastsOf}
 use Rattle.integers.specs.First.{onFirst}
+use Rattle.integers.proofs.First.{none-first}
 use Rattle.build.specs.Build.{Outcome, outcome, builtMap, storedOf, solidOf, onSheet, buildOf, numberOf}
 
 abbrev isDone : Reply → Bool
@@ -39,9 +40,8 @@ module _ (n : ℕ) (out after : List ℕ) where
   no-other o h e = absurd (true≢false (ap (λ (o : Outcome). isDone (o .reply)) e ∙ h))
 
   -- a list whose first would decide for another reply is empty
-  none-first : (ns : List ℕ) (f : ℕ → Outcome) (rest : Outcome) → ((k : ℕ) → isDone (f k .reply) ≡ false) → done ≡ onFirst ns f rest → (ns ≡ []) × (done ≡ rest)
-  none-first [] f rest h e = (refl, e)
-  none-first (k ∷ ks) f rest h e = no-other (f k) (h k) e
+  not-first : (ns : List ℕ) (f : ℕ → Outcome) (rest : Outcome) → ((k : ℕ) → isDone (f k .reply) ≡ false) → done ≡ onFirst ns f rest → (ns ≡ []) × (done ≡ rest)
+  not-first ns f rest h = none-first (λ (o : Outcome). done ≡ o) f rest ns (λ k. no-other (f k) (h k))
 
   stored : (map : List ℕ) → done ≡ storedOf map out → (n ≡ length map) × (length map ≤ length out) × (after ≡ map ++ drop (length map) out)
   unfolding storedOf
@@ -70,8 +70,8 @@ module _ (n : ℕ) (out after : List ℕ) where
     solid-made e =
         by-test (inLimits root)
         (λ h.
-        let p = none-first (pastOf rs (rootCube root)) (λ k. outcome (OverRoot k) out) _ (λ k. refl) (rw h at e) in
-        stored-made h (p .0) (none-first (pastsOf rs (root .d) (rootCube root)) (λ k. outcome (OverSmaller k) out) _ (λ k. refl) (p .1)))
+        let p = not-first (pastOf rs (rootCube root)) (λ k. outcome (OverRoot k) out) _ (λ k. refl) (rw h at e) in
+        stored-made h (p .0) (not-first (pastsOf rs (root .d) (rootCube root)) (λ k. outcome (OverSmaller k) out) _ (λ k. refl) (p .1)))
         (λ h. no-other (outcome Limits out) refl (rw h at e))
 
 module _ (s : List ℕ) (root : Root) (out after : List ℕ) (n : ℕ) where

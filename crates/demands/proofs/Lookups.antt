@@ -1,12 +1,12 @@
 -- What a lookup answers: code 0 exactly where no row of the table refuses; the leaf that holds the position decides; and in a built map what it answers is the truth of the solid there. Assumes nothing.
 use mathlib.Core.Path.{_≡_, refl, sym, ap, _∙_}
 use mathlib.Core.Bool.{Bool, true, false, not}
-use mathlib.Core.List.{List, [], _∷_}
+use mathlib.Core.List.{List}
 use Prim.Native.Nat.{ℕ}
 use native.Mathlib.Omega.{arith}
 use borrow.Author.Tests.{eqb-true}
 use lib.Dec.{eqb}
-use Rattle.integers.specs.First.{onFirst}
+use Rattle.integers.proofs.First.{none-first}
 use Rattle.integers.proofs.Order.{by-test}
 use Rattle.sheet.specs.declared.Record.{Record}
 use Rattle.sheet.specs.declared.Checked.{Checked}
@@ -38,10 +38,8 @@ use Rattle.demands.proofs.Soundness.{agrees}
 use Rattle.demands.proofs.Tiling.{found}
 
 -- ---- exactly where no row of the table refuses
--- a list whose first would decide for another code is empty
-none-first : (ns : List ℕ) (f : ℕ → Reply) (rest : Reply) → ((n : ℕ) → codeOf (f n) ≡ 0 → ⊥) → codeOf (onFirst ns f rest) ≡ 0 → (ns ≡ []) × (codeOf rest ≡ 0)
-none-first [] f rest h e = (refl, e)
-none-first (n ∷ ns) f rest h e = absurd (h n e)
+abbrev Answers : Reply → Type 0
+Answers r = codeOf r ≡ 0
 
 module _ (sheet map : List ℕ) (p : Point) where
   abbrev rs : List Record
@@ -50,8 +48,8 @@ module _ (sheet map : List ℕ) (p : Point) where
   map-looks-up : (n : ℕ) → checkOf sheet ≡ Good n → codeOf (mapReply rs map p) ≡ 0 → CanLookUp sheet map p
   unfolding mapReply
   map-looks-up n g e =
-      let opened = none-first (faultOf (hasFace rs) map) Map _ (λ at z. omega arith) e in
-      let over = none-first (pastOf rs (rootCube (rootOf map))) OverRoot _ (λ at z. omega arith) (opened .1) in
+      let opened = none-first Answers Map _ (faultOf (hasFace rs) map) (λ at z. omega arith) e in
+      let over = none-first Answers OverRoot _ (pastOf rs (rootCube (rootOf map))) (λ at z. omega arith) (opened .1) in
       by-test (holdsPoint (rootCube (rootOf map)) p)
       (λ t. record { good = (n, g); opens = opened .0; over-root = over .0; inside = t })
       (λ t. let z : _≡_ {A = ℕ} 10 0 = rw t at (over .1) in absurd (omega arith))

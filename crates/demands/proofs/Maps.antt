@@ -59,7 +59,7 @@ module _ (sheet map : List ℕ) (b : Built sheet map) where
   leaves-are : leavesOf map ≡ all rs root within
   leaves-are = ap leavesOf is ∙ built-leaves rs root within
 
-  pub opens : faultOf (hasFace rs) map ≡ []
+  opens : faultOf (hasFace rs) map ≡ []
   opens = ap (faultOf (hasFace rs)) is ∙ built-opens rs root within
 
   -- looking up in it is refused for a position that is not in the root, and for nothing else

@@ -1,12 +1,12 @@
 -- What building answers: code 0 exactly where no row of the table refuses, and where one does the lent buffer is as it was. Assumes nothing.
 use mathlib.Core.Path.{_≡_, refl, sym, ap}
-use mathlib.Core.List.{List, [], _∷_}
+use mathlib.Core.List.{List}
 use Prim.Native.Nat.{ℕ}
 use native.Mathlib.Omega.{arith}
 use borrow.Author.Tests.{le-ltb}
 use lib.Dec.{ltb}
 use lib.ListN.{length}
-use Rattle.integers.specs.First.{onFirst}
+use Rattle.integers.proofs.First.{each-first}
 use Rattle.integers.proofs.Order.{by-test}
 use Rattle.sheet.specs.declared.Record.{Record}
 use Rattle.sheet.specs.declared.Checked.{Checked}
@@ -35,10 +35,6 @@ module _ (before : List ℕ) where
   abbrev Kept : Outcome → Type 0
   Kept o = (codeOf (o .reply) ≡ 0 → ⊥) → o .buffer ≡ before
 
-  first-kept : (ns : List ℕ) (f : ℕ → Outcome) (rest : Outcome) → ((n : ℕ) → Kept (f n)) → Kept rest → Kept (onFirst ns f rest)
-  first-kept [] f rest h k = k
-  first-kept (n ∷ ns) f rest h k = h n
-
   stored-kept : (map : List ℕ) → Kept (storedOf map before)
   unfolding storedOf
   stored-kept map refused =
@@ -51,8 +47,8 @@ module _ (before : List ℕ) where
   solid-kept rs root =
       by-test (inLimits root)
       (λ t. rw t
-      (first-kept (pastOf rs (rootCube root)) (λ n. outcome (OverRoot n) before) _ (λ n _. refl)
-      (first-kept (pastsOf rs (root .d) (rootCube root)) (λ n. outcome (OverSmaller n) before) _ (λ n _. refl)
+      (each-first Kept (λ n. outcome (OverRoot n) before) _ (pastOf rs (rootCube root)) (λ n _. refl)
+      (each-first Kept (λ n. outcome (OverSmaller n) before) _ (pastsOf rs (root .d) (rootCube root)) (λ n _. refl)
       (stored-kept (builtMap rs root)))))
       (λ t. rw t (λ _. refl))
 

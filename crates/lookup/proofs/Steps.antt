@@ -1,5 +1,5 @@
 -- The reply of looking up at each test, as the functions on the way learn it. Assumes nothing.
-use mathlib.Core.Path.{_≡_, refl, sym, ap, _∙_}
+use mathlib.Core.Path.{_≡_, sym, ap, _∙_}
 use mathlib.Core.Bool.{Bool, true, false, not}
 use mathlib.Core.List.{List, [], _∷_}
 use Prim.Native.Nat.{ℕ, _+_, _*_, _%_, _≤_, _<_, _^_}
@@ -8,6 +8,7 @@ use native.Mathlib.Omega.{arith}
 use lib.Dec.{eqb}
 use lib.ListN.{length, getD}
 use Rattle.integers.specs.First.{onFirst}
+use Rattle.integers.proofs.First.{none-first}
 use Rattle.integers.proofs.Order.{by-test}
 use Rattle.sheet.specs.declared.Record.{Record}
 use Rattle.sheet.specs.declared.Record.the-variants.{X}
@@ -59,8 +60,7 @@ module _ (s map : List ℕ) (p : Point) (c : Checked) (e : c ≡ checkOf s) wher
 -- what an answer that the first of a list decides tells of the list
 module _ {A B : Type 0} (bad : ℕ → A) (good : B → A) (clash : (n : ℕ) (b : B) → bad n ≡ good b → ⊥) (bad-one : (n m : ℕ) → bad n ≡ bad m → n ≡ m) (good-one : (a b : B) → good a ≡ good b → a ≡ b) (b : B) where
   decided-good : (ns : List ℕ) (c : B) → onFirst ns bad (good b) ≡ good c → (ns ≡ []) × (c ≡ b)
-  decided-good [] c e = (refl, sym (good-one b c e))
-  decided-good (n ∷ ns) c e = absurd (clash n c e)
+  decided-good ns c e = let t = none-first (λ (a : A). a ≡ good c) bad (good b) ns (λ n. clash n c) e in (t .0, sym (good-one b c (t .1)))
 
   decided-bad : (ns : List ℕ) (at : ℕ) → onFirst ns bad (good b) ≡ bad at → {C : Type 0} (f : ℕ → C) (rest : C) → onFirst ns f rest ≡ f at
   decided-bad [] at e f rest = absurd (clash at b (sym e))

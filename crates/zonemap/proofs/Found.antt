@@ -8,7 +8,7 @@ use borrow.Author.Tests.{lt-ltb, le-ltb, ltb-true, ltb-false}
 use lib.Dec.{eqb, ltb}
 use lib.ListN.{length, getD}
 use Rattle.integers.proofs.Order.{by-test}
-use Rattle.integers.specs.First.{onFirst}
+use Rattle.integers.proofs.First.{none-first}
 use Rattle.cube.specs.Limits.{inLimits}
 use Rattle.zonemap.specs.declared.Leaf.{Leaf}
 use Rattle.zonemap.specs.Map.{mapVersion}
@@ -72,10 +72,6 @@ header-sizes s e =
     (λ t. absurd (one-fault 0 (rw t at e)))
 
 -- a map that opens has no fault before its leaves, and none in them
-first-none : (ns rest : List ℕ) → onFirst ns (λ (n : ℕ). n ∷ []) rest ≡ [] → (ns ≡ []) × (rest ≡ [])
-first-none [] rest e = (refl, e)
-first-none (n ∷ ns) rest e = absurd (one-fault n e)
-
 pub opens-parts : (named : ℕ → Bool) (s : List ℕ) → faultOf named s ≡ [] → (headerFault s ≡ []) × (leavesFault named (rootOf s .d) 0 19 (leavesOf s) ≡ [])
 unfolding faultOf
-opens-parts named s e = first-none (headerFault s) _ e
+opens-parts named s e = none-first (λ (ns : List ℕ). ns ≡ []) (λ at. at ∷ []) _ (headerFault s) one-fault e

@@ -1,18 +1,19 @@
 -- Texts put into a buffer one after the other. Assumes nothing.
-use mathlib.Core.Path.{_≡_, refl, sym, ap, _∙_}
+use mathlib.Core.Path.{_≡_, refl, ap, _∙_}
 use mathlib.Core.Bool.{true, false}
 use mathlib.Core.List.{List, [], _∷_, _++_}
 use Prim.Native.Nat.{ℕ, _+_, _/_, _%_, _≤_, _<_}
 use native.Mathlib.Omega.{arith}
 use lib.IntN.{ℤ, pos, natAbs}
 use lib.ListN.{length, length-append, set, length-set}
-use lib.Seq.{length-sets, length-take-le, append-snoc}
+use lib.Seq.{length-sets, append-snoc}
 use lib.Signed.{ltZ}
 use Rattle.integers.proofs.Stores.{sets-append}
 use mir.Syntax.{w64}
 use mir.Val.{SFits, toZ, ofZ}
 use mir.Facts.{toZ-ofZ}
 use Rattle.io.specs.Counts.{Counts}
+use Rattle.io.proofs.Counting.{counts}
 use Rattle.text.specs.Text.{digit, decimalOf, signedText, lineOf, Puts}
 use Rattle.text.proofs.Digits.{one-digit, more-digits}
 use Rattle.text.proofs.Signs.{lessOne, plain-text, less-text, signed-length}
@@ -39,11 +40,8 @@ pub last-put : (n at r : ℕ) (d o : List ℕ) → 10 ≤ n → Puts (decimalOf 
 last-put n at r d o h p = rw (more-digits n h) (both-put _ _ _ _ _ _ _ _ p (byte-put (digit (n % 10)) r o))
 
 -- ---- a number with its sign, which has at most 20 bytes
-pub count : (r : ℕ) (o : List ℕ) → r ≤ length o → Counts r o
-count r o h = (h, sym (length-take-le r o h))
-
 number-put : (n : ℤ) (at r : ℕ) (d o : List ℕ) → SFits w64 n → at + 20 ≤ length d → Puts (signedText n) at d r o → Puts (signedText n) at d r o × Counts r o
-number-put n at r d o f l p = (p, count r o (omega (arith, signed-length n f, p, ap length (p .bytes) ∙ length-sets d at (signedText n))))
+number-put n at r d o f l p = (p, counts r o (omega (arith, signed-length n f, p, ap length (p .bytes) ∙ length-sets d at (signedText n))))
 
 module _ (n : ℤ) (at : ℕ) (d : List ℕ) (f : SFits w64 n) (l : at + 20 ≤ length d) where
   module _ (t : ltZ (toZ w64 (ofZ w64 n)) (pos 0) ≡ false) where

@@ -1,6 +1,7 @@
 -- `text::put_line` meets its contract. Assumes nothing.
 use native.Mathlib.Omega.{arith}
-use Rattle.text.proofs.Storing.{count, last-field, field}
+use Rattle.io.proofs.Counting.{counts}
+use Rattle.text.proofs.Storing.{last-field, field}
 use Rattle.text.proofs.put_line.Statement.{statement}
 use Rattle.text.proofs.put_line.Tie as tie
 
@@ -40,7 +41,7 @@ returns c =
     let f3 = field (s .args .c) _ _ _ _ (s .fits .c) _ _ _ _ (c3 .put-field3 .ensures .0) f4 in
     let f2 = field (s .args .b) _ _ _ _ (s .fits .b) _ _ _ _ (c2 .put-field2 .ensures .0) f3 in
     let f1 = field (s .args .a) _ _ _ _ (s .fits .a) _ _ _ _ (c1 .put-field .ensures .0) f2 in
-    (f1, count _ _ (omega (arith, c1 .put-field .ensures .1)))
+    (f1, counts _ _ (omega (arith, c1 .put-field .ensures .1)))
 
 pub put-line-spec : {M : Type 1} → statement M
 put-line-spec =

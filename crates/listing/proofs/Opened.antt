@@ -9,11 +9,11 @@ use Rattle.cube.specs.declared.Root.{Root}
 use Rattle.cube.specs.Limits.{inLimits}
 use Rattle.cube.proofs.Cubes.{at-deep}
 use Rattle.zonemap.specs.declared.Leaf.{Leaf}
-use Rattle.zonemap.specs.Opening.{rootOf, leafIn, leavesFrom, leavesOf, sizeOf, leavesFault, headerFault, faultOf}
+use Rattle.zonemap.specs.Opening.{rootOf, leafIn, leavesFrom, leavesOf, sizeOf, faultOf}
 use Rattle.zonemap.proofs.Powers.{power-below}
 use Rattle.zonemap.proofs.Runs.{Run, Fine, opens-run, good-level, good-place}
 use Rattle.zonemap.proofs.Scan.{more}
-use Rattle.zonemap.proofs.Found.{header-sizes, opens-parts}
+use Rattle.zonemap.proofs.Found.{opens-parts, opens-sizes}
 
 -- ---- one leaf
 module _ (r : Root) (e : inLimits r ≡ true) (l : Leaf) where
@@ -32,19 +32,13 @@ pub record Left (s : List ℕ) (r : Root) (place at : ℕ) : Type 0 where
   pub run : Run (Fine named (r .d)) (r .d) place (leavesFrom s at) (8 ^ r .d)
 
 module _ (s : List ℕ) (opens : (named : ℕ → Bool) × (faultOf named s ≡ [])) where
-  parts : (headerFault s ≡ []) × (leavesFault (opens .0) (rootOf s .d) 0 19 (leavesOf s) ≡ [])
-  parts = opens-parts (opens .0) s (opens .1)
-
-  pub opened-sizes : (19 ≤ length s) × (length s % 3 ≡ 1) × (inLimits (rootOf s) ≡ true)
-  opened-sizes = header-sizes s (parts .0)
-
   pub left-start : (r : Root) → rootOf s ≡ r → Left s r 0 19
   left-start r same = record {
-    within = rw same at (opened-sizes .2);
+    within = rw same at (opens-sizes (opens .0) s (opens .1) .2);
     beat = refl;
-    whole = opened-sizes .1;
+    whole = opens-sizes (opens .0) s (opens .1) .1;
     named = opens .0;
-    run = rw same at (opens-run (opens .0) (rootOf s .d) 0 19 (leavesOf s) (parts .1));
+    run = rw same at (opens-run (opens .0) (rootOf s .d) 0 19 (leavesOf s) (opens-parts (opens .0) s (opens .1) .1));
   }
 
 module _ (s : List ℕ) (r : Root) (place at : ℕ) (i : Left s r place at) (h : at < length s) where

@@ -2,7 +2,7 @@
 use mathlib.Core.Path.{_≡_, sym, ap, _∙_}
 use mathlib.Core.Bool.{Bool, true, false, not}
 use mathlib.Core.List.{List, [], _∷_}
-use Prim.Native.Nat.{ℕ, _+_, _*_, _%_, _≤_, _<_, _^_}
+use Prim.Native.Nat.{ℕ, _+_, _*_, _≤_, _<_, _^_}
 use native.Mathlib.Nat.{zero-lt-suc, one-le-pow}
 use native.Mathlib.Omega.{arith}
 use lib.Dec.{eqb}
@@ -32,7 +32,7 @@ use Rattle.zonemap.specs.declared.Header.the-variants.{Good as GoodHeader, Bad 
 use Rattle.zonemap.specs.declared.Opened.{Opened}
 use Rattle.zonemap.specs.declared.Opened.the-variants.{Good as GoodLeaves, Bad as BadLeaves}
 use Rattle.zonemap.specs.Opening.{rootOf, leafIn, leavesOf, marked, leafAt, offsetAt, leavesFault, headerFault, faultOf}
-use Rattle.zonemap.proofs.Found.{header-sizes, found-inside, opens-parts}
+use Rattle.zonemap.proofs.Found.{header-sizes, found-inside, opens-parts, opens-sizes}
 use Rattle.colour.specs.declared.State.{State}
 use Rattle.colour.specs.declared.Judged.{Judged}
 use Rattle.colour.specs.declared.Judged.the-variants.{Known, Past}
@@ -145,12 +145,9 @@ module _ (rs : List Record) (map : List ℕ) (opens : faultOf (hasFace rs) map �
   parts : (headerFault map ≡ []) × (leavesFault (hasFace rs) (rootOf map .d) 0 19 (leavesOf map) ≡ [])
   parts = opens-parts (hasFace rs) map opens
 
-  sizes : (19 ≤ length map) × (length map % 3 ≡ 1) × (inLimits (rootOf map) ≡ true)
-  sizes = header-sizes map (parts .0)
-
   module _ (root : Root) (is : root ≡ rootOf map) where
     pub opened-within : inLimits root ≡ true
-    opened-within = rw is (sizes .2)
+    opened-within = rw is (opens-sizes (hasFace rs) map opens .2)
 
     pub opened-near : (q : Cube) → q ≡ rootCube root → Near 0 q
     opened-near q e = rw e (near-fewer _ 0 _ (root-near root opened-within) (omega arith))
@@ -159,7 +156,7 @@ module _ (rs : List Record) (map : List ℕ) (opens : faultOf (hasFace rs) map �
       pub leaf-room : (at : ℕ) → at ≡ offsetAt map (placeOrFirst root p) → at + 3 ≤ length map
       leaf-room at e =
           let z : 8 ^ root .d ≡ 8 ^ rootOf map .d = ap (λ (r : Root). 8 ^ r .d) is in
-          omega (arith, found-inside (hasFace rs) map (placeOrFirst root p) (sizes .0) (omega (arith, first-below map root (parts .0) is p)) (parts .1))
+          omega (arith, found-inside (hasFace rs) map (placeOrFirst root p) (opens-sizes (hasFace rs) map opens .0) (omega (arith, first-below map root (parts .0) is p)) (parts .1))
 
       -- ---- reply 7
       pub over-root : (n : ℕ) → pastOf rs (rootCube root) ≡ n ∷ [] → OverRoot n ≡ mapReply rs map p

@@ -75,3 +75,6 @@ header-sizes s e =
 pub opens-parts : (named : ℕ → Bool) (s : List ℕ) → faultOf named s ≡ [] → (headerFault s ≡ []) × (leavesFault named (rootOf s .d) 0 19 (leavesOf s) ≡ [])
 unfolding faultOf
 opens-parts named s e = none-first (λ (ns : List ℕ). ns ≡ []) (λ at. at ∷ []) _ (headerFault s) one-fault e
+
+pub opens-sizes : (named : ℕ → Bool) (s : List ℕ) → faultOf named s ≡ [] → (19 ≤ length s) × (length s % 3 ≡ 1) × (inLimits (rootOf s) ≡ true)
+opens-sizes named s e = header-sizes s (opens-parts named s e .0)

@@ -16,7 +16,7 @@ use Rattle.zonemap.specs.declared.Leaf.{Leaf}
 use Rattle.zonemap.specs.Opening.{rootOf, leavesOf, sizeOf, faultOf, leafAt}
 use Rattle.zonemap.specs.Leaves.{placeAt, nowhere, Holds}
 use Rattle.zonemap.proofs.Runs.{Run, Fine, run-at, opens-run, good-level, good-place}
-use Rattle.zonemap.proofs.Found.{leaf-holds, holds-one, header-sizes, opens-parts}
+use Rattle.zonemap.proofs.Found.{leaf-holds, holds-one, opens-parts, opens-sizes}
 
 module _ (named : ℕ → Bool) (s : List ℕ) (opens : faultOf named s ≡ []) where
   abbrev r : Root
@@ -29,7 +29,7 @@ module _ (named : ℕ → Bool) (s : List ℕ) (opens : faultOf named s ≡ []) 
   ls = leavesOf s
 
   within : inLimits r ≡ true
-  within = header-sizes s (opens-parts named s opens .0) .2
+  within = opens-sizes named s opens .2
 
   run : Run (Fine named d) d 0 ls (8 ^ d)
   run = opens-run named d 0 19 ls (opens-parts named s opens .1)

@@ -1,11 +1,11 @@
 -- `listing::answered` meets its contract: a map that opens has its 19 bytes before the leaves. Assumes nothing.
-use Rattle.listing.proofs.Opened.{opened-sizes}
+use Rattle.zonemap.proofs.Found.{opens-sizes}
 use borrow.Author.Needs.{needs}
 use Rattle.listing.proofs.answered.Statement.{statement}
 use Rattle.listing.proofs.answered.Tie as tie
 
 sub-head : tie.Need-sub-head
-sub-head c = opened-sizes _ (c .before .pre .0) .0
+sub-head c = opens-sizes _ _ (c .before .pre .0 .1) .0
 
 cast-head : tie.Need-cast-head
 cast-head c = search needs

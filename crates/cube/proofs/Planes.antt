@@ -7,12 +7,12 @@ use borrow.Author.Tests.{le-leb, lt-leb}
 use lib.Dec.{T, leb}
 use lib.Pow.{pow-mono}
 use lib.IntN.{ℤ, pos, negsuc, natAbs, _+ℤ_, _-ℤ_}
-use lib.Signed.{mag, leZ, ltZ, nonNeg, _≤ℤ_}
+use lib.Signed.{mag, leZ, ltZ, nonNeg, yes-nonNeg, _≤ℤ_}
 use mir.Syntax.{w32, w64}
 use mir.Val.{Fits, SFits, toZ, ofZ}
 use mir.Facts.{toZ-ofZ, toZ-pos}
 use Rattle.integers.proofs.Naturals.{ints, abs-+, minus-is}
-use Rattle.integers.proofs.Machine.{fits, result-fits, result-back}
+use Rattle.integers.proofs.Machine.{fits, result-fits, result-back, wide-back}
 use Rattle.cube.specs.declared.Root.{Root}
 use Rattle.cube.specs.declared.Cube.{Cube}
 use Rattle.cube.specs.declared.Point.{Point}
@@ -26,9 +26,6 @@ abs-most (pos a) = omega arith
 abs-most (negsuc a) = omega arith
 
 module _ (low : ℤ) (f : SFits w32 low) where
-  pub wide : SFits w64 (toZ w32 (ofZ w32 low))
-  wide = rw (toZ-ofZ f) (record { sfits = omega (arith, f .sfits) })
-
   module _ (side : ℕ) (s : Fits w32 side) where
     sum-fits : SFits w64 (low +ℤ pos side)
     sum-fits = fits w64 (low +ℤ pos side) (omega (arith, f .sfits, s .fits, abs-most low, abs-+ low (pos side)))
@@ -37,7 +34,7 @@ module _ (low : ℤ) (f : SFits w32 low) where
     Sum = toZ w64 (ofZ w64 (toZ w32 (ofZ w32 low))) +ℤ toZ w64 side
 
     sum-is : Sum ≡ low +ℤ pos side
-    sum-is = rw (toZ-ofZ wide, toZ-ofZ f, toZ-pos w64 {n = side} (omega (arith, s .fits)))
+    sum-is = rw (wide-back low f, toZ-pos w64 {n = side} (omega (arith, s .fits)))
 
     pub plane-fits : SFits w64 Sum
     plane-fits = rw sum-is sum-fits
@@ -55,7 +52,7 @@ module _ (low v : ℤ) (side : ℕ) (f : SFits w32 low) (g : SFits w32 v) where
   pub held-high : (s : Fits w32 side) → leZ (toZ w32 (ofZ w32 low)) (toZ w32 (ofZ w32 v)) ≡ true →
       ltZ (toZ w64 (ofZ w64 (toZ w32 (ofZ w32 v)))) (toZ w64 (ofZ w64 (Sum low f side s))) ≡ axisHolds low side v
   unfolding axisHolds
-  held-high s t = rw (sum-is low f side s, toZ-ofZ (sum-fits low f side s), toZ-ofZ (wide v g), toZ-ofZ g, rw (toZ-ofZ f, toZ-ofZ g) at t)
+  held-high s t = rw (sum-is low f side s, toZ-ofZ (sum-fits low f side s), wide-back v g, rw (toZ-ofZ f, toZ-ofZ g) at t)
 
   pub held-low : leZ (toZ w32 (ofZ w32 low)) (toZ w32 (ofZ w32 v)) ≡ false → leZ (toZ w32 (ofZ w32 low)) (toZ w32 (ofZ w32 v)) ≡ axisHolds low side v
   unfolding axisHolds
@@ -94,10 +91,6 @@ module _ (low : ℤ) (by : ℕ) (h : natAbs low + by ≤ 2 ^ 21) where
   moved-is = rw moved-back (toZ-ofZ small)
 
 -- ---- steps_to
-no-sign : (a : ℤ) → pos 0 ≤ℤ a → T (nonNeg a)
-no-sign (pos n) h = tt
-no-sign (negsuc n) h = absurd (h .le)
-
 module _ (low v : ℤ) (f : SFits w32 low) (g : SFits w32 v) (h : low ≤ℤ v) (near : natAbs (v -ℤ low) ≤ 2 ^ 21) where
   abbrev Gap : ℤ
   Gap = toZ w32 (ofZ w32 v) -ℤ toZ w32 (ofZ w32 low)
@@ -112,7 +105,7 @@ module _ (low v : ℤ) (f : SFits w32 low) (g : SFits w32 v) (h : low ≤ℤ v) 
   gap-back = result-back w32 _-ℤ_ v low g f gap-small
 
   pub gap-cast : T (nonNeg (toZ w32 (ofZ w32 Gap))) × Fits w32 (natAbs (toZ w32 (ofZ w32 Gap)))
-  gap-cast = rw gap-back (no-sign (v -ℤ low) (omega (arith, ints, minus-is v low)), record { fits = omega arith })
+  gap-cast = rw gap-back (yes-nonNeg {z = v -ℤ low} (omega (arith, ints, minus-is v low)), record { fits = omega arith })
 
   pub gap-steps : (n : ℕ) → natAbs (toZ w32 (ofZ w32 Gap)) / 2 ^ n ≡ natAbs (v -ℤ low) / 2 ^ n
   gap-steps n = rw gap-back

@@ -5,9 +5,9 @@ use Prim.Native.Nat.{_≤_, _<_, _^_}
 use native.Mathlib.Omega.{arith}
 use lib.IntN.{ℤ, pos, negsuc, natAbs}
 use lib.Signed.{mag}
-use mir.Syntax.{Width}
+use mir.Syntax.{Width, w32, w64}
 use mir.Val.{SFits, hbits, toZ, ofZ}
-use mir.Facts.{toZ-ofZ}
+use mir.Facts.{toZ-ofZ, sfits-widen}
 
 mag-le : (a : ℤ) → mag a ≤ natAbs a
 mag-le (pos a) = omega arith
@@ -31,3 +31,14 @@ module _ (w : Width) where
 
     pub result-back : toZ w (ofZ w (f (toZ w (ofZ w a)) (toZ w (ofZ w b)))) ≡ f a b
     result-back = rw (toZ-ofZ fa, toZ-ofZ fb) (toZ-ofZ fr)
+
+-- a number of 32 bits, cast to 64
+module _ (a : ℤ) (f : SFits w32 a) where
+  wider : SFits w64 a
+  wider = sfits-widen {w = w32} {w′ = w64} tt f
+
+  pub wide-fits : SFits w64 (toZ w32 (ofZ w32 a))
+  wide-fits = rw (toZ-ofZ f) wider
+
+  pub wide-back : toZ w64 (ofZ w64 (toZ w32 (ofZ w32 a))) ≡ a
+  wide-back = rw (toZ-ofZ f) (toZ-ofZ wider)

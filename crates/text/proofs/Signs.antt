@@ -9,7 +9,7 @@ use lib.Dec.{T}
 use lib.IntN.{ℤ, pos, negsuc, natAbs, _-ℤ_}
 use lib.ListN.{length}
 use lib.Signed.{ltZ, nonNeg}
-use mir.Syntax.{w32, w64}
+use mir.Syntax.{w64}
 use mir.Val.{Fits, SFits, toZ, ofZ}
 use mir.Facts.{toZ-ofZ}
 use Rattle.integers.proofs.Order.{not-negative}
@@ -79,7 +79,3 @@ pub signed-length : (n : ℤ) → SFits w64 n → length (signedText n) ≤ 20
 unfolding signedText
 signed-length (pos k) f = omega (arith, decimal-length 18 k (omega (arith, f .sfits)))
 signed-length (negsuc k) f = omega (arith, decimal-length 18 (suc k) (omega (arith, f .sfits)))
-
--- ---- a number of 32 bits, cast by a caller
-pub widened : (n : ℤ) → SFits w32 n → SFits w64 (toZ w32 (ofZ w32 n))
-widened n f = rw (toZ-ofZ f) (record { sfits = omega (arith, f .sfits) })

@@ -1,5 +1,6 @@
 -- `contents::whole` meets its contract: the cast loses nothing. Assumes nothing.
-use Rattle.text.proofs.Signs.{widened}
+use mir.Syntax.{w32}
+use mir.Facts.{sfits-widen, sfits-toZ, fits-ofZ}
 use borrow.Author.Needs.{needs}
 use Rattle.contents.proofs.whole.Statement.{statement}
 use Rattle.contents.proofs.whole.Tie as tie
@@ -8,7 +9,7 @@ slice-aggregate-put-number : tie.Need-slice-aggregate-put-number
 slice-aggregate-put-number c = search needs
 
 cast-put-number : tie.Need-cast-put-number
-cast-put-number c = widened (c .before .args .n) (c .before .fits .n)
+cast-put-number c = sfits-widen {w = w32} tt (sfits-toZ (fits-ofZ (c .before .fits .n)))
 
 put-number-requires : tie.Need-put-number-requires
 put-number-requires c κs = search needs

@@ -1,11 +1,12 @@
 -- `cube::axis_fits` meets its contract: the high plane is added in 64 bits. Assumes nothing.
-use Rattle.cube.proofs.Planes.{wide, plane-fits, plane-high, plane-low}
+use Rattle.integers.proofs.Machine.{wide-fits}
+use Rattle.cube.proofs.Planes.{plane-fits, plane-high, plane-low}
 use borrow.Author.Needs.{needs}
 use Rattle.cube.proofs.axis_fits.Statement.{statement}
 use Rattle.cube.proofs.axis_fits.Tie as tie
 
 cast-result : tie.Need-cast-result
-cast-result c = search (needs, wide)
+cast-result c = search (needs, wide-fits)
 
 cast-result-2 : tie.Need-cast-result-2
 cast-result-2 c = search needs

@@ -1,5 +1,5 @@
 -- `listing::head` meets its contract: the casts lose nothing. Assumes nothing.
-use Rattle.text.proofs.Signs.{widened}
+use Rattle.integers.proofs.Machine.{wide-fits}
 use borrow.Author.Needs.{needs}
 use Rattle.listing.proofs.head.Statement.{statement}
 use Rattle.listing.proofs.head.Tie as tie
@@ -11,13 +11,13 @@ write-all-requires : tie.Need-write-all-requires
 write-all-requires c κs = search needs
 
 cast-line : tie.Need-cast-line
-cast-line c = search (needs, widened)
+cast-line c = search (needs, wide-fits)
 
 cast-line-2 : tie.Need-cast-line-2
-cast-line-2 c = search (needs, widened)
+cast-line-2 c = search (needs, wide-fits)
 
 cast-line-3 : tie.Need-cast-line-3
-cast-line-3 c = search (needs, widened)
+cast-line-3 c = search (needs, wide-fits)
 
 cast-line-4 : tie.Need-cast-line-4
 cast-line-4 c = search needs

@@ -1,5 +1,5 @@
 -- `listing::leaf` meets its contract: the casts lose nothing, and the place after a leaf fits. Assumes nothing.
-use Rattle.text.proofs.Signs.{widened}
+use Rattle.integers.proofs.Machine.{wide-fits}
 use Rattle.listing.proofs.Opened.{leaf-few, leaf-room}
 use native.Mathlib.Omega.{arith}
 use borrow.Author.Needs.{needs}
@@ -23,13 +23,13 @@ cast-line : tie.Need-cast-line
 cast-line c = search needs
 
 cast-line-2 : tie.Need-cast-line-2
-cast-line-2 c = search (needs, widened)
+cast-line-2 c = search (needs, wide-fits)
 
 cast-line-3 : tie.Need-cast-line-3
-cast-line-3 c = search (needs, widened)
+cast-line-3 c = search (needs, wide-fits)
 
 cast-line-4 : tie.Need-cast-line-4
-cast-line-4 c = search (needs, widened)
+cast-line-4 c = search (needs, wide-fits)
 
 cast-line-5 : tie.Need-cast-line-5
 cast-line-5 c = search needs

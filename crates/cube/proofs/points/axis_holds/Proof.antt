@@ -1,14 +1,15 @@
 -- `cube::points::axis_holds` meets its contract: the high plane is added in 64 bits. Assumes nothing.
-use Rattle.cube.proofs.Planes.{wide, plane-fits, held-high, held-low}
+use Rattle.integers.proofs.Machine.{wide-fits}
+use Rattle.cube.proofs.Planes.{plane-fits, held-high, held-low}
 use borrow.Author.Needs.{needs}
 use Rattle.cube.proofs.points.axis_holds.Statement.{statement}
 use Rattle.cube.proofs.points.axis_holds.Tie as tie
 
 cast-result : tie.Need-cast-result
-cast-result c = search (needs, wide)
+cast-result c = search (needs, wide-fits)
 
 cast-result-2 : tie.Need-cast-result-2
-cast-result-2 c = search (needs, wide)
+cast-result-2 c = search (needs, wide-fits)
 
 cast-result-3 : tie.Need-cast-result-3
 cast-result-3 c = search needs

@@ -1,30 +1,34 @@
--- What a cube that was judged tells: its state, whether a record passes the limit over it, and what it gives by itself. Assumes nothing.
-use mathlib.Core.Path.{_≡_, refl, ap, _∙_}
+-- What a cube gives by itself and by its children; and where no record passes the limit over a cube, none does over a smaller one. Assumes nothing.
+use mathlib.Core.Path.{_≡_, refl, sym, ap, _∙_}
 use mathlib.Core.Bool.{true, false}
 use mathlib.Core.List.{List, [], _∷_, _++_}
 use Prim.Native.Nat.{ℕ, zero, suc, _+_, _-_, _^_, _≤_, _<_}
 use native.Mathlib.Nat.{zero-lt-suc, le-trans, pow-le-pow-right}
+use native.Mathlib.Numerals.{sub-one}
 use native.Mathlib.Omega.{arith}
+use borrow.Author.Tests.{ne-eqb}
 use lib.ListN.{length, getD}
 use Rattle.integers.proofs.Order.{by-test}
 use Rattle.sheet.specs.declared.Record.{Record}
 use Rattle.cube.specs.declared.Cube.{Cube}
 use Rattle.cube.specs.Cubes.{childOf}
 use Rattle.zonemap.specs.declared.Leaf.{Leaf}
+use Rattle.cube.proofs.Cubes.{child-inside}
+use Rattle.colour.specs.declared.State.{State}
 use Rattle.colour.specs.declared.Judged.{Judged}
 use Rattle.colour.specs.declared.Judged.the-variants.{Known, Past}
 use Rattle.colour.specs.Entries.{blank, entries, judgedOf, pastOf}
-use Rattle.colour.proofs.Told.{cases, none-known}
+use Rattle.colour.specs.States.{classOf}
+use Rattle.colour.proofs.Told.{known-is, past-first}
+use Rattle.colour.proofs.Smaller.{none-smaller}
 use Rattle.build.specs.Tree.{upto}
 use Rattle.build.specs.Solid.{solidState, isGray, leafOf, leavesOf, pastsOf}
-use Rattle.build.specs.Counting.{grayJudged, shownOf}
-use Rattle.build.proofs.Tree.{kid, visit-end, visit-flat, visit-gray, visit-most, Begins, begins-more}
+use Rattle.build.proofs.Tree.{kid, upto-nothing, visit-end, visit-flat, visit-gray, visit-most}
 
--- a cube that is split, and over which no record passes the limit
+-- a cube that is split
 pub record Split (rs : List Record) (left : ℕ) (q : Cube) : Type 0 where
   pub deep : 0 < left
   pub gray : isGray rs q ≡ true
-  pub none : pastOf rs q ≡ []
 
 module _ (rs : List Record) where
   -- the leaves of child k, and the records past the limit there
@@ -70,44 +74,42 @@ module _ (rs : List Record) where
     unfolding pastsOf
     pasts-flat e = visit-flat (isGray rs) (pastOf rs) (pastOf rs) left q e
 
-    -- split or not, the cube comes first
-    pub pasts-own : (n : ℕ) → Begins n (pastOf rs q) → Begins n (pastsOf rs left q)
-    pasts-own n h = by left refl
-      where
-        by : (m : ℕ) → left ≡ m → Begins n (pastsOf rs left q)
-        by zero e = rw (pasts-end e) h
-        by (suc m) e =
-            by-test (isGray rs q) (λ t. rw (pasts-split (let z : 0 < left = omega arith in z) t) (begins-more n (pastOf rs q) (upto (kidPasts left q) 8) h)) (λ t. rw (pasts-flat t) h)
-
     pub leaves-few : left ≤ 10 → length (leavesOf rs left q) ≤ 2 ^ 30
     unfolding leavesOf
     leaves-few h = le-trans (visit-most (isGray rs) (λ q. []) (λ q. leafOf rs q ∷ []) (λ q. refl) (λ q. refl) left q) (pow-le-pow-right (zero-lt-suc 7) h)
 
-  -- ---- a cube that was judged
+  -- ---- the limit
+  pub child-none : (q : Cube) → pastOf rs q ≡ [] → (k : ℕ) → pastOf rs (childOf q k) ≡ []
+  child-none q none k = none-smaller (childOf q k) q (child-inside q k) rs none
+
+  -- reply 11 cannot be given
+  pub none-below : (left : ℕ) (q : Cube) → pastOf rs q ≡ [] → pastsOf rs left q ≡ []
+  none-below zero q none = pasts-end zero q refl ∙ none
+  none-below (suc left) q none =
+      by-test (isGray rs q)
+      (λ t.
+      let kids : (k : ℕ) → kidPasts (suc left) q k ≡ [] = λ k. kid-pasts (suc left) q k ∙ rw (sub-one (suc left)) (none-below left (childOf q k) (child-none q none k)) in
+      pasts-split (suc left) q (omega arith) t ∙ rw (none, upto-nothing (kidPasts (suc left) q) kids 8))
+      (λ t. pasts-flat (suc left) q t ∙ none)
+
+  -- ---- a cube that was judged, over which no record passes the limit
   module _ (q : Cube) (solid : ℕ) (last : solid + 1 ≡ length rs) (j : Judged) (e : j ≡ judgedOf rs q solid) where
-    solid-is : getD (entries q rs) solid blank .state ≡ solidState rs q
+    pub known-state : (state : State) → j ≡ Known state → state ≡ solidState rs q
     unfolding solidState
-    solid-is = ap (λ (n : ℕ). getD (entries q rs) n blank .state) (let z : solid ≡ length rs - 1 = omega arith in z)
+    known-state state k =
+        known-is rs q q refl solid j e state k ∙ ap (λ (n : ℕ). getD (entries q rs) n blank .state) (let z : solid ≡ length rs - 1 = omega arith in z)
 
-    -- the two cases
-    pub solid-cases : {A : Type 0} → (pastOf rs q ≡ [] → j ≡ Known (solidState rs q) → A) → ((n : ℕ) → pastOf rs q ≡ n ∷ [] → j ≡ Past n → A) → A
-    solid-cases f g = cases rs q q refl solid j e (λ p i. f p (i ∙ ap Known solid-is)) g
+    pub not-past : pastOf rs q ≡ [] → (n : ℕ) → j ≡ Past n → ⊥
+    not-past none n k =
+        let z : [] ≡ n ∷ [] = sym none ∙ past-first rs q q refl solid j e n k in
+        let y : _≡_ {A = ℕ} 0 1 = ap length z in omega arith
 
-    -- where the code splits the cube, the definition does
-    pub splits : (left : ℕ) → (left ≡ 0 → ⊥) → grayJudged j ≡ true → Split rs left q
+  -- its class tells whether it is split
+  module _ (q : Cube) (state : State) (is : state ≡ solidState rs q) (class : ℕ) (of : class ≡ classOf state) where
+    pub gray-is : class ≡ 4 → isGray rs q ≡ true
     unfolding isGray
-    splits left l g =
-        solid-cases (λ p i. record { deep = omega (arith, l); gray = rw i at g; none = p })
-        (λ n p i. let z : false ≡ true = rw i at g in let y : _≡_ {A = ℕ} 0 1 = cc in absurd (omega arith))
+    gray-is h = rw (← is, ← of, h)
 
-    -- what is known of it, where no record passes the limit
-    module _ (none : pastOf rs q ≡ []) where
-      known : j ≡ Known (solidState rs q)
-      known = none-known rs q q refl solid j e none ∙ ap Known solid-is
-
-      pub shown-is : shownOf j ≡ solidState rs q
-      shown-is = rw known
-
-      pub flat-is : grayJudged j ≡ false → isGray rs q ≡ false
-      unfolding isGray
-      flat-is g = rw known at g
+    pub flat-is : (class ≡ 4 → ⊥) → isGray rs q ≡ false
+    unfolding isGray
+    flat-is h = rw (← is, ← of) (ne-eqb class 4 h)

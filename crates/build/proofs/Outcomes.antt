@@ -24,15 +24,10 @@ use Rattle.colour.specs.Entries.{pastOf}
 use Rattle.zonemap.specs.declared.Leaf.{Leaf}
 use Rattle.zonemap.specs.Map.{headerOf, leavesBytes, mapOf}
 use Rattle.zonemap.proofs.Bytes.{header-length, map-length}
-use Rattle.build.specs.declared.Counted.{Counted}
-use Rattle.build.specs.declared.Counted.the-variants.{Leaves, Past as PastIn}
-use Rattle.build.specs.declared.Reply.the-variants.{Done, Sheet, Limits, OverRoot, OverSmaller, Short}
-use Rattle.build.specs.Solid.{leavesOf, pastsOf}
+use Rattle.build.specs.declared.Reply.the-variants.{Done, Sheet, Limits, OverRoot, Short}
+use Rattle.build.specs.Solid.{leavesOf}
 use Rattle.build.specs.Build.{Outcome, outcome, builtMap, storedOf, solidOf, buildOf}
-use Rattle.build.specs.Counting.{countedOf}
-use Rattle.build.proofs.Tree.{Begins, begins-first}
-use Rattle.build.proofs.Cubes.{leaves-few}
-use Rattle.build.proofs.Count.{tells-past, tells-leaves}
+use Rattle.build.proofs.Cubes.{leaves-few, none-below}
 
 -- ---- replies 1 to 5
 pub bad-sheet : (s : List ℕ) (root : Root) (d : List ℕ) (c : Checked) (why : Refusal) → c ≡ checkOf s → c ≡ Refused why → outcome (Sheet why) d ≡ buildOf s root d
@@ -52,16 +47,6 @@ module _ (rs : List Record) (root : Root) where
     pub write-room : (n : ℕ) (d d₁ : List ℕ) → n ≡ length (leavesOf rs (root .d) (rootCube root)) → 19 + 3 * n ≤ length d → d₁ ≡ sets d 0 (headerOf root n) → 19 + 3 * length (leavesOf rs (root .d) q) ≤ length d₁
     write-room n d d₁ count room header = rw (is, ← count, header, length-sets d 0 (headerOf root n)) room
 
-    module _ (c : Counted) (e : c ≡ countedOf rs (root .d) q) where
-      counted : c ≡ countedOf rs (root .d) (rootCube root)
-      counted = e ∙ ap (countedOf rs (root .d)) is
-
-      pub counted-leaves : (n : ℕ) → c ≡ Leaves n → (pastsOf rs (root .d) (rootCube root) ≡ []) × (n ≡ length (leavesOf rs (root .d) (rootCube root)))
-      counted-leaves n h = tells-leaves rs (root .d) (rootCube root) n (sym counted ∙ h)
-
-      pub counted-over : (n : ℕ) → c ≡ PastIn n → Begins n (pastsOf rs (root .d) (rootCube root))
-      counted-over n h = tells-past rs (root .d) (rootCube root) n (sym counted ∙ h)
-
 module _ (rs : List Record) (root : Root) (d : List ℕ) where
   abbrev top : Cube
   top = rootCube root
@@ -80,15 +65,10 @@ module _ (rs : List Record) (root : Root) (d : List ℕ) where
     unfolding solidOf
     over-root n h = rw (within, h)
 
-    module _ (none : pastOf rs top ≡ []) where
-      -- ---- reply 11
-      pub over-smaller : (n : ℕ) → Begins n (pastsOf rs (root .d) top) → outcome (OverSmaller n) d ≡ solidOf rs root d
-      unfolding solidOf
-      over-smaller n h = rw (within, none) (sym (begins-first n (pastsOf rs (root .d) top) (λ m. outcome (OverSmaller m) d) (storedOf (builtMap rs root) d) h))
-
-      pub no-smaller : (o : Outcome) → pastsOf rs (root .d) top ≡ [] → o ≡ storedOf (builtMap rs root) d → o ≡ solidOf rs root d
-      unfolding solidOf
-      no-smaller o h e = rw (within, none, h) e
+    -- ---- reply 11 does not come
+    pub no-smaller : pastOf rs top ≡ [] → (o : Outcome) → o ≡ storedOf (builtMap rs root) d → o ≡ solidOf rs root d
+    unfolding solidOf
+    no-smaller none o e = rw (within, none, none-below rs (root .d) top none) e
 
     -- ---- reply 8, and the map
     module _ (n : ℕ) (count : n ≡ length ls) where

@@ -11,7 +11,6 @@ use lib.ListN.{length, length-append}
 use Rattle.cube.specs.declared.Cube.{Cube}
 use Rattle.cube.specs.Cubes.{childOf}
 use Rattle.build.specs.Tree.{upto, visit}
-use Rattle.integers.specs.First.{onFirst}
 
 -- ---- lists end to end
 module _ {A : Type 0} (f : ℕ → List A) where
@@ -39,37 +38,11 @@ module _ {A : Type 0} (f : ℕ → List A) where
   upto-bound b zero h = omega arith
   upto-bound b (suc n) h = omega (arith, length-append (upto f n) (f n), upto-bound b n h, h n)
 
--- ---- where nothing is given
-none-left : {A : Type 0} (a b : List A) → a ++ b ≡ [] → a ≡ []
-none-left [] b e = refl
-none-left (x ∷ a) b e = let z : _≡_ {A = ℕ} 0 (suc (length (a ++ b))) = sym (ap length e) in absurd (omega arith)
-
-pub none-right : {A : Type 0} (a b : List A) → a ++ b ≡ [] → b ≡ []
-none-right [] b e = e
-none-right (x ∷ a) b e = let z : _≡_ {A = ℕ} 0 (suc (length (a ++ b))) = sym (ap length e) in absurd (omega arith)
-
-pub upto-nothing : {A : Type 0} (f : ℕ → List A) (k n : ℕ) → k < n → upto f n ≡ [] → f k ≡ []
+-- nothing, where each gives nothing
+pub upto-nothing : {A : Type 0} (f : ℕ → List A) → ((k : ℕ) → f k ≡ []) → (n : ℕ) → upto f n ≡ []
 unfolding upto
-upto-nothing f k zero l e = let z : ⊥ = omega arith in absurd z
-upto-nothing f k (suc n) l e =
-    ⊎-elim (λ (p : k ≡ n). rw p (none-right (upto f n) (f n) e)) (λ (p : k < n). upto-nothing f k n p (none-left (upto f n) (f n) e)) (eq-or-lt-of-le (let z : k ≤ n = omega arith in z))
-
--- ---- a list that begins with n
-pub record Begins (n : ℕ) (l : List ℕ) : Type 0 where
-  pub rest : List ℕ
-  pub is : l ≡ n ∷ rest
-
-pub begins-more : (n : ℕ) (l m : List ℕ) → Begins n l → Begins n (l ++ m)
-begins-more n l m h = record { rest = h .rest ++ m; is = ap (λ (k : List ℕ). k ++ m) (h .is) }
-
-pub begins-upto : (f : ℕ → List ℕ) (n k m : ℕ) → k < m → upto f k ≡ [] → Begins n (f k) → Begins n (upto f m)
-unfolding upto
-begins-upto f n k zero l e h = let z : ⊥ = omega arith in absurd z
-begins-upto f n k (suc m) l e h =
-    ⊎-elim (λ (p : k ≡ m). rw (← p, e) h) (λ (p : k < m). begins-more n (upto f m) (f m) (begins-upto f n k m p e h)) (eq-or-lt-of-le (let z : k ≤ m = omega arith in z))
-
-pub begins-first : {A : Type 0} (n : ℕ) (l : List ℕ) (f : ℕ → A) (rest : A) → Begins n l → onFirst l f rest ≡ f n
-begins-first n l f rest h = ap (λ (k : List ℕ). onFirst k f rest) (h .is)
+upto-nothing f h zero = refl
+upto-nothing f h (suc n) = rw (upto-nothing f h n, h n)
 
 -- ---- what the cubes give
 cond-most : {A : Type 0} (b : Bool) (xs ys : List A) (m : ℕ) → length xs ≤ m → length ys ≤ m → length (cond b xs ys) ≤ m

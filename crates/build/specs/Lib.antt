@@ -1,4 +1,3 @@
 pub mod Tree
 pub mod Solid
 pub mod Build
-pub mod Counting

@@ -6,12 +6,11 @@ ghost use mathlib.Core.Bool.{true};
 ghost use mathlib.Core.List.{[]};
 ghost use lib.ListN.{length};
 ghost use Rattle.sheet.specs.Records.{recordsOf};
+ghost use Rattle.kinds.specs.Offsets.{Offsets};
 ghost use Rattle.cube.specs.Limits.{inLimits};
 ghost use Rattle.cube.specs.Cubes.{rootCube};
 ghost use Rattle.colour.specs.Entries.{pastOf};
-ghost use Rattle.build.specs.Solid.{leavesOf, pastsOf};
 ghost use Rattle.build.specs.Build.{outcome, builtMap, storedOf, solidOf, buildOf};
-use crate::Counted;
 use crate::Reply;
 use crate::leaves;
 use colour::Judged;
@@ -33,7 +32,7 @@ pub fn build(sheet: &[u8], x: i32, y: i32, z: i32, k: u8, d: u8, out: &mut [u8])
     }
 }
 
-// Replies 6 and 7, and the rest.
+// Replies 6 and 7, and the rest. No reply 11 comes after them: what holds over the root holds over each smaller cube.
 fn over_root(sheet: &[u8], solid: u8, root: Root, out: &mut [u8]) -> Reply
     requires { ⌜ solid + 1 ≡ length (recordsOf (now sheet)) ⌝ }
     ensures { λ r. ⌜ outcome r (now (out .exit)) ≡ solidOf (recordsOf (now (sheet .entry))) root (now (out .entry)) ⌝ }
@@ -41,9 +40,12 @@ fn over_root(sheet: &[u8], solid: u8, root: Root, out: &mut [u8]) -> Reply
     if !root.is_within() {
         return Reply::Limits;
     }
-    match colour::judge(sheet, solid as usize + 1, root.cube(), solid) {
+    let count = solid as usize + 1;
+    let mut offsets = [0u16; 256];
+    kinds::list_offsets(sheet, count, &mut offsets);
+    match colour::judge(sheet, &offsets, count, root.cube(), solid) {
         Judged::Known(_) => {
-            return over_smaller(sheet, solid, root, out);
+            return stored(sheet, &offsets, solid, root, out);
         }
         Judged::Past(n) => {
             return Reply::OverRoot(n);
@@ -51,31 +53,17 @@ fn over_root(sheet: &[u8], solid: u8, root: Root, out: &mut [u8]) -> Reply
     }
 }
 
-// Reply 11, and the rest.
-fn over_smaller(sheet: &[u8], solid: u8, root: Root, out: &mut [u8]) -> Reply
-    requires { ⌜ solid + 1 ≡ length (recordsOf (now sheet)) ⌝ ∗ ⌜ inLimits root ≡ true ⌝ ∗ ⌜ pastOf (recordsOf (now sheet)) (rootCube root) ≡ [] ⌝ }
-    ensures { λ r. ⌜ outcome r (now (out .exit)) ≡ solidOf (recordsOf (now (sheet .entry))) root (now (out .entry)) ⌝ }
-{
-    match leaves::count(sheet, solid, root.cube(), root.d) {
-        Counted::Leaves(n) => {
-            return stored(sheet, solid, root, n, out);
-        }
-        Counted::Past(n) => {
-            return Reply::OverSmaller(n);
-        }
-    }
-}
-
-// Reply 8, and the map of n leaves.
-fn stored(sheet: &[u8], solid: u8, root: Root, n: usize, out: &mut [u8]) -> Reply
-    requires { ⌜ solid + 1 ≡ length (recordsOf (now sheet)) ⌝ ∗ ⌜ inLimits root ≡ true ⌝ ∗ ⌜ pastsOf (recordsOf (now sheet)) (root .d) (rootCube root) ≡ [] ⌝ ∗ ⌜ n ≡ length (leavesOf (recordsOf (now sheet)) (root .d) (rootCube root)) ⌝ }
+// Reply 8, and the map.
+fn stored(sheet: &[u8], offsets: &[u16], solid: u8, root: Root, out: &mut [u8]) -> Reply
+    requires { ⌜ Offsets (now offsets) (now sheet) ⌝ ∗ ⌜ solid + 1 ≡ length (recordsOf (now sheet)) ⌝ ∗ ⌜ inLimits root ≡ true ⌝ ∗ ⌜ pastOf (recordsOf (now sheet)) (rootCube root) ≡ [] ⌝ }
     ensures { λ r. ⌜ outcome r (now (out .exit)) ≡ storedOf (builtMap (recordsOf (now (sheet .entry))) root) (now (out .entry)) ⌝ }
 {
+    let n = leaves::count(sheet, offsets, solid, root.cube(), root.d);
     let need = 19 + 3 * n;
     if out.len() < need {
         return Reply::Short(need);
     }
     zonemap::put_header(out, root, n as u32);
-    let _end = leaves::write(sheet, out, 19, solid, root.cube(), root.d);
+    let _end = leaves::write(sheet, offsets, out, 19, solid, root.cube(), root.d);
     Reply::Done(need)
 }

@@ -1,4 +1,5 @@
 // The leaves of a tree of cubes: counted, and written. Each calls itself on the eight children of a gray cube; the levels left fall by one.
+// Where no record's bounds pass the limit over a cube, none do over a smaller one: so it is asked of the first cube, and of no other.
 
 ghost use mathlib.Core.Path.{_≡_};
 ghost use Prim.Native.Nat.{_+_, _*_, _≤_};
@@ -6,70 +7,47 @@ ghost use mathlib.Core.List.{[]};
 ghost use lib.ListN.{length};
 ghost use lib.Seq.{sets};
 ghost use Rattle.sheet.specs.Records.{recordsOf};
+ghost use Rattle.kinds.specs.Offsets.{Offsets};
 ghost use Rattle.cube.specs.Limits.{Near};
+ghost use Rattle.colour.specs.Entries.{pastOf};
 ghost use Rattle.zonemap.specs.Map.{leafBytes, leavesBytes};
-ghost use Rattle.build.specs.Solid.{leafBy, leavesOf, pastsOf};
-ghost use Rattle.build.specs.Counting.{grayJudged, aloneOf, shownOf, countedOf};
-use crate::Counted;
+ghost use Rattle.build.specs.Solid.{solidState, leafBy, leavesOf};
 use colour::Judged;
 use colour::State;
 use cube::Cube;
 use zonemap::Leaf;
 
-// Whether a cube is gray. One whose bounds pass the limit is not split.
-fn is_gray(judged: Judged) -> bool
-    ensures { λ r. ⌜ r ≡ grayJudged judged ⌝ }
+// The solid's state over a cube.
+fn solid_state(s: &[u8], offsets: &[u16], solid: u8, q: Cube) -> State
+    requires { ⌜ Offsets (now offsets) (now s) ⌝ ∗ ⌜ solid + 1 ≡ length (recordsOf (now s)) ⌝ ∗ ⌜ Near 0 q ⌝ ∗ ⌜ pastOf (recordsOf (now s)) q ≡ [] ⌝ }
+    ensures { λ r. ⌜ r ≡ solidState (recordsOf (now (s .entry))) q ⌝ }
 {
-    match judged {
-        Judged::Known(state) => state.class() == 4,
-        Judged::Past(_) => false,
-    }
-}
-
-// What a cube that is not split counts as.
-fn alone(judged: Judged) -> Counted
-    ensures { λ r. ⌜ r ≡ aloneOf judged ⌝ }
-{
-    match judged {
-        Judged::Known(_) => Counted::Leaves(1),
-        Judged::Past(n) => Counted::Past(n),
-    }
-}
-
-// The state of a cube that was judged; where its bounds pass the limit none is known.
-fn shown(judged: Judged) -> State
-    ensures { λ r. ⌜ r ≡ shownOf judged ⌝ }
-{
-    match judged {
+    match colour::judge(s, offsets, solid as usize + 1, q, solid) {
         Judged::Known(state) => state,
         Judged::Past(_) => State::Mixed,
     }
 }
 
-// The number of leaves below a cube, or the first record past the limit over the first such cube, a cube before its children.
-pub fn count(s: &[u8], solid: u8, q: Cube, left: u8) -> Counted
-    requires { ⌜ solid + 1 ≡ length (recordsOf (now s)) ⌝ ∗ ⌜ Near left q ⌝ }
-    ensures { λ r. ⌜ r ≡ countedOf (recordsOf (now (s .entry))) left q ⌝ }
+// The number of leaves below a cube. At the last level a cube is one leaf, whatever its colour.
+pub fn count(s: &[u8], offsets: &[u16], solid: u8, q: Cube, left: u8) -> usize
+    requires { ⌜ Offsets (now offsets) (now s) ⌝ ∗ ⌜ solid + 1 ≡ length (recordsOf (now s)) ⌝ ∗ ⌜ Near left q ⌝ ∗ ⌜ pastOf (recordsOf (now s)) q ≡ [] ⌝ }
+    ensures { λ r. ⌜ r ≡ length (leavesOf (recordsOf (now (s .entry))) left q) ⌝ }
 {
-    let judged = colour::judge(s, solid as usize + 1, q, solid);
     if left == 0 {
-        return alone(judged);
+        return 1;
     }
-    if !is_gray(judged) {
-        return alone(judged);
+    let state = solid_state(s, offsets, solid, q);
+    if state.class() != 4 {
+        return 1;
     }
     let mut total = 0;
     let mut k = 0;
     while k < 8 {
         let child = q.child(k);
-        let counted = count(s, solid, child, left - 1);
-        let Counted::Leaves(n) = counted else {
-            return counted;
-        };
-        total += n;
+        total += count(s, offsets, solid, child, left - 1);
         k += 1;
     }
-    Counted::Leaves(total)
+    total
 }
 
 // A leaf at `at`: the place after it.
@@ -86,22 +64,28 @@ fn put(out: &mut [u8], at: usize, level: u8, state: State) -> usize
 }
 
 // The leaves below a cube, written from `at` on: the place after them.
-pub fn write(s: &[u8], out: &mut [u8], at: usize, solid: u8, q: Cube, left: u8) -> usize
-    requires { ⌜ solid + 1 ≡ length (recordsOf (now s)) ⌝ ∗ ⌜ Near left q ⌝ ∗ ⌜ pastsOf (recordsOf (now s)) left q ≡ [] ⌝ ∗ ⌜ at + 3 * length (leavesOf (recordsOf (now s)) left q) ≤ length (now out) ⌝ }
+pub fn write(
+    s: &[u8],
+    offsets: &[u16],
+    out: &mut [u8],
+    at: usize,
+    solid: u8,
+    q: Cube,
+    left: u8,
+) -> usize
+    requires { ⌜ Offsets (now offsets) (now s) ⌝ ∗ ⌜ solid + 1 ≡ length (recordsOf (now s)) ⌝ ∗ ⌜ Near left q ⌝ ∗ ⌜ pastOf (recordsOf (now s)) q ≡ [] ⌝ ∗ ⌜ at + 3 * length (leavesOf (recordsOf (now s)) left q) ≤ length (now out) ⌝ }
     ensures { λ r. ⌜ (r ≡ at + 3 * length (leavesOf (recordsOf (now (s .entry))) left q)) × (now (out .exit) ≡ sets (now (out .entry)) at (leavesBytes (leavesOf (recordsOf (now (s .entry))) left q))) ⌝ }
 {
-    let judged = colour::judge(s, solid as usize + 1, q, solid);
-    if left == 0 {
-        return put(out, at, q.level, shown(judged));
-    }
-    if !is_gray(judged) {
-        return put(out, at, q.level, shown(judged));
+    let state = solid_state(s, offsets, solid, q);
+    let class = state.class();
+    if left == 0 || class != 4 {
+        return put(out, at, q.level, state);
     }
     let mut next = at;
     let mut k = 0;
     while k < 8 {
         let child = q.child(k);
-        next = write(s, out, next, solid, child, left - 1);
+        next = write(s, offsets, out, next, solid, child, left - 1);
         k += 1;
     }
     next

@@ -6,12 +6,6 @@ mod replies;
 
 pub use building::build;
 
-// How many leaves there are below a cube, or the first record whose bounds pass the limit.
-pub enum Counted {
-    Leaves(usize),
-    Past(usize),
-}
-
 // What building answers: the map's length, or why there is none.
 pub enum Reply {
     Done(usize),

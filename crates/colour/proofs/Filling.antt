@@ -25,8 +25,11 @@ use Rattle.sheet.specs.Records.{recordsOf}
 use Rattle.sheet.specs.Operands.{firstOf, secondOf}
 use Rattle.sheet.specs.Along.{along, onward}
 use Rattle.sheet.proofs.Along.{along-more, length-along, take-along}
-use Rattle.sheet.proofs.Walk.{Before, before-first, before-next, stands-few, stands-taken}
+use Rattle.sheet.proofs.Walk.{Before, stands-taken}
+use Rattle.sheet.proofs.Good.{records-few}
 use Rattle.sheet.proofs.Arrays.{Reads, reads-more, filled-with}
+use Rattle.kinds.specs.Offsets.{offsetOf}
+use Rattle.kinds.proofs.Listed.{before-offset}
 use Rattle.cube.specs.declared.Cube.{Cube}
 use Rattle.colour.specs.declared.State.{State}
 use Rattle.colour.specs.declared.State.the-variants.{Out, In, Single, Comp, Mixed}
@@ -44,8 +47,8 @@ use Rattle.colour.proofs.FirstPast.{Keep, first-past, none-past, keep-m
 abbrev done : List ℕ → Cube → ℕ → List Entry
 done s q n = entries q (take n (recordsOf s))
 
-pub record Filling (s : List ℕ) (q : Cube) (b : Bounds) (classes faces : List ℕ) (at : ℕ) : Type 0 where
-  pub walk : Before s at (b .count)
+pub record Filling (s : List ℕ) (q : Cube) (b : Bounds) (classes faces : List ℕ) : Type 0 where
+  pub among : b .count ≤ length (recordsOf s)
   pub low-long : length (b .low) ≡ 256
   pub high-long : length (b .high) ≡ 256
   pub classes-long : length classes ≡ 256
@@ -56,11 +59,11 @@ pub record Filling (s : List ℕ) (q : Cube) (b : Bounds) (classes faces : List 
   pub faced : Reads (λ e. faceOf (e .state)) blank faces (done s q (b .count))
   pub keep : Keep (done s q (b .count))
 
-pub filling-start : (s : List ℕ) (q : Cube) → Filling s q (record { low = replicate 256 (pos 0); high = replicate 256 (pos 0); count = 0 }) (replicate 256 0) (replicate 256 0) 3
+pub filling-start : (s : List ℕ) (q : Cube) → Filling s q (record { low = replicate 256 (pos 0); high = replicate 256 (pos 0); count = 0 }) (replicate 256 0) (replicate 256 0)
 unfolding along onward
 filling-start s q =
     record {
-      walk = before-first s;
+      among = omega arith;
       low-long = refl;
       high-long = refl;
       classes-long = refl;
@@ -81,7 +84,7 @@ back-again (Single f) = refl
 back-again (Comp f) = refl
 back-again Mixed = refl
 
-module _ (s : List ℕ) (q : Cube) (b : Bounds) (classes faces : List ℕ) (at : ℕ) (w : Filling s q b classes faces at) where
+module _ (s : List ℕ) (q : Cube) (b : Bounds) (classes faces : List ℕ) (w : Filling s q b classes faces) where
   abbrev rs : List Record
   rs = recordsOf s
 
@@ -113,72 +116,73 @@ module _ (s : List ℕ) (q : Cube) (b : Bounds) (classes faces : List ℕ) (at :
       rw (p, le-ltb (length rs) (length rs) (omega arith)) (ap Known (e ∙ coloured which ∙ ap (λ (l : List Record). getD (entries q l) which blank .state) t))
 
   -- one record more: r stands there
-  module _ (more : n < length rs) (r : Record) (row : rowAt s at ≡ Fits r) where
-    long : length (done s q n) ≡ n
-    long = length-along (entryOf q) (take n rs) ∙ (omega (arith, length-take n rs))
-
-    -- the entry that the definition gives r
-    abbrev this : Entry
-    this = entryOf q (done s q n) r
-
-    abbrev first : ℕ
-    first = firstOf r
-
-    abbrev second : ℕ
-    second = secondOf r
-
-    bounds-are : boundsOf q (heldAt (b .low) (b .high) first) (heldAt (b .low) (b .high) second) r ≡ this .bounds
-    unfolding entryOf
-    bounds-are = rw (operand first, operand second)
-
-    state-is : stateOf n (heldAt (b .low) (b .high) first) (stated first) (stated second) r ≡ this .state
-    unfolding entryOf
-    state-is = rw (operand first, coloured first, coloured second, long)
-
-    grown : done s q (n + 1) ≡ done s q n ++ this ∷ []
-    grown = ap (entries q) (stands-taken s at n (w .walk) more r row X) ∙ along-more (entryOf q) (take n rs) r
-
-    -- all entries: those before it, its own, and those after it
-    cut : entries q rs ≡ done s q n ++ (this ∷ drop (n + 1) (entries q rs))
-    cut =
-        sym (take-append-drop (n + 1) (entries q rs))
-        ∙ ap (λ (l : List Entry). l ++ drop (n + 1) (entries q rs)) (take-along (entryOf q) rs (n + 1) (omega arith) ∙ grown)
-        ∙ append-assoc (done s q n) (this ∷ []) (drop (n + 1) (entries q rs))
-
-    on : Before s (at + 1 + getD s at 0) (n + 1)
-    on = before-next s at n (w .walk) more r row
-
+  module _ (more : n < length rs) where
     pub room : n < 256
-    room = stands-few s at n (w .walk) more r row
+    room = omega (arith, records-few s)
 
-    module _ (got : Bounded) (eb : got ≡ boundedOf (boundsOf q (heldAt (b .low) (b .high) first) (heldAt (b .low) (b .high) second) r)) where
-      pub judged-past : (which : ℕ) → got ≡ Over → Past n ≡ judgedOf rs q which
-      unfolding judgedOf
-      judged-past which h =
-          let f : isWithin (this .bounds) ≡ false = rw bounds-are at (past-tells got (boundsOf q (heldAt (b .low) (b .high) first) (heldAt (b .low) (b .high) second) r) eb h) in
-          let p : beforePast (entries q rs) ≡ n = ap beforePast cut ∙ first-past (done s q n) this (drop (n + 1) (entries q rs)) (w .keep) f ∙ long in
-          rw (p, lt-ltb n (length rs) more)
+    module _ (at : ℕ) (there : at ≡ offsetOf s n) (r : Record) (row : rowAt s at ≡ Fits r) where
+      long : length (done s q n) ≡ n
+      long = length-along (entryOf q) (take n rs) ∙ (omega (arith, length-take n rs))
 
-      module _ (v : Interval) (ev : got ≡ Within v) where
-        exact : v ≡ this .bounds
-        exact = within-is got (boundsOf q (heldAt (b .low) (b .high) first) (heldAt (b .low) (b .high) second) r) eb v ev ∙ bounds-are
+      -- the entry that the definition gives r
+      abbrev this : Entry
+      this = entryOf q (done s q n) r
 
-        pub filling-next : (state : State) (class face : ℕ) → state ≡ stateOf n (heldAt (b .low) (b .high) first) (stated first) (stated second) r → class ≡ classOf state → face ≡ faceOf state
-            → Filling s q (record { low = set (b .low) n (toZ w64 (ofZ w64 (v .low))); high = set (b .high) n (toZ w64 (ofZ w64 (v .high))); count = n + 1 }) (set classes n class) (set faces n face) (at + 1 + getD s at 0)
-        filling-next state class face h ec ef =
-            let small = within-small got (boundsOf q (heldAt (b .low) (b .high) first) (heldAt (b .low) (b .high) second) r) eb v ev in
-            let low = limit-back (v .low) (small .low) in
-            let high = limit-back (v .high) (small .high) in
-            let is = h ∙ state-is in
-            record {
-              walk = on;
-              low-long = length-set (b .low) n _ ∙ w .low-long;
-              high-long = length-set (b .high) n _ ∙ w .high-long;
-              classes-long = length-set classes n class ∙ w .classes-long;
-              faces-long = length-set faces n face ∙ w .faces-long;
-              lows = rw grown (reads-more (λ e. e .bounds .low) blank this _ (b .low) (done s q n) n long (omega (arith, room, w .low-long)) (low ∙ ap (λ (k : Interval). k .low) exact) (w .lows));
-              highs = rw grown (reads-more (λ e. e .bounds .high) blank this _ (b .high) (done s q n) n long (omega (arith, room, w .high-long)) (high ∙ ap (λ (k : Interval). k .high) exact) (w .highs));
-              classed = rw grown (reads-more (λ e. classOf (e .state)) blank this class classes (done s q n) n long (omega (arith, room, w .classes-long)) (ec ∙ ap classOf is) (w .classed));
-              faced = rw grown (reads-more (λ e. faceOf (e .state)) blank this face faces (done s q n) n long (omega (arith, room, w .faces-long)) (ef ∙ ap faceOf is) (w .faced));
-              keep = rw grown (keep-more (done s q n) this (w .keep) (rw exact at small));
-            }
+      abbrev first : ℕ
+      first = firstOf r
+
+      abbrev second : ℕ
+      second = secondOf r
+
+      bounds-are : boundsOf q (heldAt (b .low) (b .high) first) (heldAt (b .low) (b .high) second) r ≡ this .bounds
+      unfolding entryOf
+      bounds-are = rw (operand first, operand second)
+
+      state-is : stateOf n (heldAt (b .low) (b .high) first) (stated first) (stated second) r ≡ this .state
+      unfolding entryOf
+      state-is = rw (operand first, coloured first, coloured second, long)
+
+      walk : Before s at n
+      walk = rw there (before-offset s n (w .among))
+
+      grown : done s q (n + 1) ≡ done s q n ++ this ∷ []
+      grown = ap (entries q) (stands-taken s at n walk more r row X) ∙ along-more (entryOf q) (take n rs) r
+
+      -- all entries: those before it, its own, and those after it
+      cut : entries q rs ≡ done s q n ++ (this ∷ drop (n + 1) (entries q rs))
+      cut =
+          sym (take-append-drop (n + 1) (entries q rs))
+          ∙ ap (λ (l : List Entry). l ++ drop (n + 1) (entries q rs)) (take-along (entryOf q) rs (n + 1) (omega arith) ∙ grown)
+          ∙ append-assoc (done s q n) (this ∷ []) (drop (n + 1) (entries q rs))
+
+      module _ (got : Bounded) (eb : got ≡ boundedOf (boundsOf q (heldAt (b .low) (b .high) first) (heldAt (b .low) (b .high) second) r)) where
+        pub judged-past : (which : ℕ) → got ≡ Over → Past n ≡ judgedOf rs q which
+        unfolding judgedOf
+        judged-past which h =
+            let f : isWithin (this .bounds) ≡ false = rw bounds-are at (past-tells got (boundsOf q (heldAt (b .low) (b .high) first) (heldAt (b .low) (b .high) second) r) eb h) in
+            let p : beforePast (entries q rs) ≡ n = ap beforePast cut ∙ first-past (done s q n) this (drop (n + 1) (entries q rs)) (w .keep) f ∙ long in
+            rw (p, lt-ltb n (length rs) more)
+
+        module _ (v : Interval) (ev : got ≡ Within v) where
+          exact : v ≡ this .bounds
+          exact = within-is got (boundsOf q (heldAt (b .low) (b .high) first) (heldAt (b .low) (b .high) second) r) eb v ev ∙ bounds-are
+
+          pub filling-next : (state : State) (class face : ℕ) → state ≡ stateOf n (heldAt (b .low) (b .high) first) (stated first) (stated second) r → class ≡ classOf state → face ≡ faceOf state
+              → Filling s q (record { low = set (b .low) n (toZ w64 (ofZ w64 (v .low))); high = set (b .high) n (toZ w64 (ofZ w64 (v .high))); count = n + 1 }) (set classes n class) (set faces n face)
+          filling-next state class face h ec ef =
+              let small = within-small got (boundsOf q (heldAt (b .low) (b .high) first) (heldAt (b .low) (b .high) second) r) eb v ev in
+              let low = limit-back (v .low) (small .low) in
+              let high = limit-back (v .high) (small .high) in
+              let is = h ∙ state-is in
+              record {
+                among = omega arith;
+                low-long = length-set (b .low) n _ ∙ w .low-long;
+                high-long = length-set (b .high) n _ ∙ w .high-long;
+                classes-long = length-set classes n class ∙ w .classes-long;
+                faces-long = length-set faces n face ∙ w .faces-long;
+                lows = rw grown (reads-more (λ e. e .bounds .low) blank this _ (b .low) (done s q n) n long (omega (arith, room, w .low-long)) (low ∙ ap (λ (k : Interval). k .low) exact) (w .lows));
+                highs = rw grown (reads-more (λ e. e .bounds .high) blank this _ (b .high) (done s q n) n long (omega (arith, room, w .high-long)) (high ∙ ap (λ (k : Interval). k .high) exact) (w .highs));
+                classed = rw grown (reads-more (λ e. classOf (e .state)) blank this class classes (done s q n) n long (omega (arith, room, w .classes-long)) (ec ∙ ap classOf is) (w .classed));
+                faced = rw grown (reads-more (λ e. faceOf (e .state)) blank this face faces (done s q n) n long (omega (arith, room, w .faces-long)) (ef ∙ ap faceOf is) (w .faced));
+                keep = rw grown (keep-more (done s q n) this (w .keep) (rw exact at small));
+              }

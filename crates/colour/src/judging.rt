@@ -3,6 +3,7 @@
 ghost use mathlib.Core.Path.{_≡_};
 ghost use lib.ListN.{length};
 ghost use Rattle.sheet.specs.Records.{recordsOf};
+ghost use Rattle.kinds.specs.Offsets.{Offsets};
 ghost use Rattle.cube.specs.Limits.{Near};
 ghost use Rattle.colour.specs.Entries.{judgedOf};
 use crate::Bounds;
@@ -13,8 +14,8 @@ use cube::Cube;
 use interval::Bounded;
 
 // The state of record `which` over a cube, or the first of the sheet's `count` records whose bounds pass the limit. The bounds are filled where they lie.
-pub fn judge(s: &[u8], count: usize, q: Cube, which: u8) -> Judged
-    requires { ⌜ count ≡ length (recordsOf (now s)) ⌝ ∗ ⌜ Near 0 q ⌝ }
+pub fn judge(s: &[u8], offsets: &[u16], count: usize, q: Cube, which: u8) -> Judged
+    requires { ⌜ Offsets (now offsets) (now s) ⌝ ∗ ⌜ count ≡ length (recordsOf (now s)) ⌝ ∗ ⌜ Near 0 q ⌝ }
     ensures { λ r. ⌜ r ≡ judgedOf (recordsOf (now (s .entry))) q which ⌝ }
 {
     let mut b = Bounds {
@@ -24,11 +25,9 @@ pub fn judge(s: &[u8], count: usize, q: Cube, which: u8) -> Judged
     };
     let mut classes = [0u8; 256];
     let mut faces = [0u8; 256];
-    let mut at = 3;
     while b.count < count {
         let n = b.count;
-        let r = kinds::record_at(s, at);
-        let next = at + 1 + s[at] as usize;
+        let r = kinds::record_at(s, offsets[n] as usize);
         let Bounded::Within(v) = entries::bounds(r, q, &b.low, &b.high) else {
             return Judged::Past(n);
         };
@@ -40,7 +39,6 @@ pub fn judge(s: &[u8], count: usize, q: Cube, which: u8) -> Judged
         b.low[n] = low;
         b.high[n] = high;
         b.count = n + 1;
-        at = next;
     }
     Judged::Known(states::state_at(&classes, &faces, which))
 }

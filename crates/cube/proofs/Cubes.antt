@@ -1,4 +1,4 @@
--- The cubes of a root: the needs of `cube`, `child` and `cube_at`, cubes that stay near the origin, and the child of the cube at a place. Assumes nothing.
+-- The cubes of a root: the needs of `cube`, `child` and `cube_at`, cubes that stay near the origin, children that lie in their cube, and the child of the cube at a place. Assumes nothing.
 use mathlib.Core.Path.{_≡_, refl, sym, ap, _∙_}
 use mathlib.Core.Bool.{true}
 use Prim.Native.Nat.{ℕ, suc, _+_, _-_, _*_, _/_, _^_, _≤_, _<_}
@@ -6,14 +6,15 @@ use native.Mathlib.Nat.{zero-mul, mul-le-mul-right}
 use native.Mathlib.Omega.{arith}
 use lib.Pow.{pow-add, shl-lt}
 use lib.IntN.{ℤ, pos, natAbs, _+ℤ_, +ℤ-assoc, +ℤ-idr, pos-+ℤ-pos}
-use lib.Signed.{mag}
+use lib.Signed.{mag, _≤ℤ_}
 use mir.Syntax.{w32}
 use mir.Val.{Fits, SFits, toZ, ofZ}
 use mir.Facts.{toZ-ofZ}
-use Rattle.integers.proofs.Naturals.{abs-+}
+use Rattle.integers.proofs.Naturals.{abs-+, ints, +-is}
 use Rattle.cube.specs.declared.Root.{Root}
 use Rattle.cube.specs.declared.Cube.{Cube}
 use Rattle.cube.specs.Limits.{inLimits, Near}
+use Rattle.cube.specs.Points.{CubeInside}
 use Rattle.cube.specs.Cubes.{rootCube, half, childOf, cornerOf, lowAt, cubeAt}
 use Rattle.cube.proofs.Limits.{limits-sizes, near-x, near-y, near-z}
 use Rattle.cube.proofs.Corners.{half-below, corner-below, corner-zero, corner-child, times-two}
@@ -38,6 +39,30 @@ child-near left q k n h l = record {
   z = low-near 2 k (q .side) (q .z) (n .z);
   deep = omega (arith, n .deep);
 }
+
+-- ---- a child lies in its cube
+axis-inside : (low : ℤ) (h side : ℕ) → h < 2 → (low ≤ℤ (low +ℤ pos (h * (side / 2)))) × (((low +ℤ pos (h * (side / 2))) +ℤ pos (side / 2)) ≤ℤ (low +ℤ pos side))
+axis-inside low h side l =
+    let m = half-most h (side / 2) l in
+    let one = +-is low (pos (h * (side / 2))) in
+    let two = +-is (low +ℤ pos (h * (side / 2))) (pos (side / 2)) in
+    let all = +-is low (pos side) in
+    (omega (arith, ints, one), omega (arith, ints, m, one, two, all))
+
+module _ (q : Cube) (k : ℕ) where
+  on-axis : (axis : ℕ) (low : ℤ) → (low ≤ℤ (low +ℤ pos (half axis k * (q .side / 2)))) × (((low +ℤ pos (half axis k * (q .side / 2))) +ℤ pos (q .side / 2)) ≤ℤ (low +ℤ pos (q .side)))
+  on-axis axis low = axis-inside low (half axis k) (q .side) (half-below axis k)
+
+  pub child-inside : CubeInside (childOf q k) q
+  unfolding childOf
+  child-inside = record {
+    x-low = on-axis 0 (q .x) .0;
+    x-high = on-axis 0 (q .x) .1;
+    y-low = on-axis 1 (q .y) .0;
+    y-high = on-axis 1 (q .y) .1;
+    z-low = on-axis 2 (q .z) .0;
+    z-high = on-axis 2 (q .z) .1;
+  }
 
 pub root-near : (r : Root) → inLimits r ≡ true → Near (r .d) (rootCube r)
 unfolding rootCube

@@ -6,6 +6,7 @@ ghost use mathlib.Core.List.{[]};
 ghost use lib.ListN.{length};
 ghost use Rattle.sheet.specs.Records.{recordsOf};
 ghost use Rattle.kinds.specs.Faces.{hasFace};
+ghost use Rattle.kinds.specs.Offsets.{Offsets};
 ghost use Rattle.cube.specs.Limits.{inLimits};
 ghost use Rattle.zonemap.specs.Opening.{rootOf, offsetAt, headerFault, faultOf};
 ghost use Rattle.lookup.specs.Lookup.{faceHolds, sideOf, answerOf, mapReply, lookupOf};
@@ -82,11 +83,14 @@ fn in_root(sheet: &[u8], count: usize, map: &[u8], at: usize, root: Root, p: Poi
     requires { ⌜ count ≡ length (recordsOf (now sheet)) ⌝ ∗ ⌜ faultOf (hasFace (recordsOf (now sheet))) (now map) ≡ [] ⌝ ∗ ⌜ root ≡ rootOf (now map) ⌝ ∗ ⌜ at ≡ offsetAt (now map) (placeOrFirst root p) ⌝ }
     ensures { λ r. ⌜ r ≡ mapReply (recordsOf (now (sheet .entry))) (now (map .entry)) p ⌝ }
 {
+    let mut offsets = [0u16; 256];
+    kinds::list_offsets(sheet, count, &mut offsets);
     // The limit alone is asked for, so any record will do.
-    match colour::judge(sheet, count, root.cube(), 0) {
+    match colour::judge(sheet, &offsets, count, root.cube(), 0) {
         Judged::Known(_) => {
             if root.cube().holds(p) {
-                return Reply::Done(answer(sheet, count, root, zonemap::leaf_at(map, at), p));
+                let leaf = zonemap::leaf_at(map, at);
+                return Reply::Done(answer(sheet, &offsets, count, root, leaf, p));
             }
             return Reply::NotInRoot;
         }
@@ -97,16 +101,16 @@ fn in_root(sheet: &[u8], count: usize, map: &[u8], at: usize, root: Root, p: Poi
 }
 
 // What a leaf answers of a point of it.
-fn answer(sheet: &[u8], count: usize, root: Root, leaf: Leaf, p: Point) -> Answer
-    requires { ⌜ count ≡ length (recordsOf (now sheet)) ⌝ ∗ ⌜ Judgeable (recordsOf (now sheet)) root p ⌝ }
+fn answer(sheet: &[u8], offsets: &[u16], count: usize, root: Root, leaf: Leaf, p: Point) -> Answer
+    requires { ⌜ Offsets (now offsets) (now sheet) ⌝ ∗ ⌜ count ≡ length (recordsOf (now sheet)) ⌝ ∗ ⌜ Judgeable (recordsOf (now sheet)) root p ⌝ }
     ensures { λ r. ⌜ r ≡ answerOf (recordsOf (now (sheet .entry))) leaf p ⌝ }
 {
     let class = leaf.class;
     match class {
         0 => Answer::Outside,
         1 => Answer::Inside,
-        2 => side(face_holds(sheet, count, root, leaf.face, p)),
-        3 => side(!face_holds(sheet, count, root, leaf.face, p)),
+        2 => side(face_holds(sheet, offsets, count, root, leaf.face, p)),
+        3 => side(!face_holds(sheet, offsets, count, root, leaf.face, p)),
         _ => Answer::Undecided,
     }
 }
@@ -121,11 +125,11 @@ fn side(holds: bool) -> Answer
 }
 
 // Whether a point satisfies face f, by the bounds over the point alone. No record's bounds pass the limit there, as they lie in those over the root.
-fn face_holds(sheet: &[u8], count: usize, root: Root, f: u8, p: Point) -> bool
-    requires { ⌜ count ≡ length (recordsOf (now sheet)) ⌝ ∗ ⌜ Judgeable (recordsOf (now sheet)) root p ⌝ }
+fn face_holds(sheet: &[u8], offsets: &[u16], count: usize, root: Root, f: u8, p: Point) -> bool
+    requires { ⌜ Offsets (now offsets) (now sheet) ⌝ ∗ ⌜ count ≡ length (recordsOf (now sheet)) ⌝ ∗ ⌜ Judgeable (recordsOf (now sheet)) root p ⌝ }
     ensures { λ r. ⌜ r ≡ faceHolds (recordsOf (now (sheet .entry))) f p ⌝ }
 {
-    match colour::judge(sheet, count, p.cube(), f) {
+    match colour::judge(sheet, offsets, count, p.cube(), f) {
         Judged::Known(state) => state.is_in(),
         Judged::Past(_) => false,
     }

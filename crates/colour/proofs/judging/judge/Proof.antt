@@ -1,43 +1,39 @@
 -- `colour::judging::judge` meets its contract. The invariant is `Filling`: so many records are done, and the arrays hold what is known of each. Assumes nothing.
 use borrow.Author.Needs.{needs}
 use Prim.Native.Nat.{_-_}
-use Rattle.colour.proofs.Filling.{Filling, filling-start, held, room, judged-end, judged-past, filling-next}
-use Rattle.sheet.proofs.Walk.{stands}
 use native.Mathlib.Omega.{arith}
+use Rattle.kinds.proofs.Listed.{listed-stands}
+use Rattle.colour.proofs.Filling.{Filling, filling-start, held, room, judged-end, judged-past, filling-next}
 use Rattle.colour.proofs.judging.judge.Statement.{statement}
 use Rattle.colour.proofs.judging.judge.Tie as tie
 
 abbrev Inv-loop : tie.InvT-loop
-Inv-loop s count q which b₀ classes₀ faces₀ at₀ b classes faces at = Filling s q b classes faces at
+Inv-loop s offsets count q which b₀ classes₀ faces₀ b classes faces = Filling s q b classes faces
 
 abbrev μ-loop : tie.MeasureT-loop
-μ-loop s count q which b₀ classes₀ faces₀ at₀ b classes faces at = count - b .count
+μ-loop s offsets count q which b₀ classes₀ faces₀ b classes faces = count - b .count
 
 loop-holds : tie.Need-loop-holds Inv-loop μ-loop
 loop-holds c = filling-start _ _
 
+mul-record-at : tie.Need-mul-record-at Inv-loop μ-loop
+mul-record-at c =
+    omega (arith, room _ _ _ _ _ (c .before .loop .inv) (omega (arith, c .loop-test .taken, c .before .before .before .before .pre .1 .0)))
+
+shared-slice-read-record-at : tie.Need-shared-slice-read-record-at Inv-loop μ-loop
+shared-slice-read-record-at c =
+    omega (arith, room _ _ _ _ _ (c .before .before .loop .inv) (omega (arith, c .before .loop-test .taken, c .before .before .before .before .before .pre .1 .0)), c .before .before .before .before .before .pre .0 .long)
+
+cast-record-at : tie.Need-cast-record-at Inv-loop μ-loop
+cast-record-at c = omega (arith, c .shared-slice-known3 .given (c .before .before .loop .b .count))
+
 record-at-requires : tie.Need-record-at-requires Inv-loop μ-loop
 record-at-requires c κs =
-    stands _ _ _ (c .before .loop .inv .walk) (omega (arith, c .loop-test .taken, c .before .before .before .pre .0))
-
-add-next : tie.Need-add-next Inv-loop μ-loop
-add-next c =
-    omega (arith, stands _ _ _ (c .before .before .loop .inv .walk) (omega (arith, c .before .loop-test .taken, c .before .before .before .before .pre .0)) .inside)
-
-shared-slice-read-next : tie.Need-shared-slice-read-next Inv-loop μ-loop
-shared-slice-read-next c =
-    omega (arith, stands _ _ _ (c .before .before .before .loop .inv .walk) (omega (arith, c .before .before .loop-test .taken, c .before .before .before .before .before .pre .0)) .inside)
-
-cast-next : tie.Need-cast-next Inv-loop μ-loop
-cast-next c = omega (arith, c .shared-slice-known2 .given (c .before .before .before .loop .at))
-
-add-next-2 : tie.Need-add-next-2 Inv-loop μ-loop
-add-next-2 c =
-    omega (arith, stands _ _ _ (c .before .before .before .loop .inv .walk) (omega (arith, c .before .before .loop-test .taken, c .before .before .before .before .before .pre .0)) .inside)
+    listed-stands _ _ (c .before .before .before .before .before .pre .0) _ (omega (arith, c .before .loop-test .taken, c .before .before .before .before .before .pre .1 .0))
 
 bounds-requires : tie.Need-bounds-requires Inv-loop μ-loop
 bounds-requires c κs =
-    (search needs, held _ _ _ _ _ _ (c .before .before .before .before .before .before .before .before .loop .inv))
+    (c .before .before .before .before .before .before .before .before .before .before .before .pre .1 .1, held _ _ _ _ _ (c .before .before .before .before .before .before .before .before .loop .inv))
 
 enum-known-v : tie.Need-enum-known-v Inv-loop μ-loop
 enum-known-v c = search needs
@@ -47,11 +43,11 @@ enum-told c = search needs
 
 returns : tie.Need-returns Inv-loop μ-loop
 returns c =
-    judged-past _ _ _ _ _ _ (c .before .before .before .before .before .before .before .before .before .before .before .loop .inv) (omega (arith, c .before .before .before .before .before .before .before .before .before .before .loop-test .taken, c .before .before .before .before .before .before .before .before .before .before .before .before .before .pre .0)) _ (c .before .before .before .before .before .before .before .before .before .record-at .ensures) _ (c .before .before .bounds .ensures) _ (c .enum-told .given .1)
+    judged-past _ _ _ _ _ (c .before .before .before .before .before .before .before .before .before .before .before .loop .inv) (omega (arith, c .before .before .before .before .before .before .before .before .before .before .loop-test .taken, c .before .before .before .before .before .before .before .before .before .before .before .before .before .before .pre .1 .0)) _ (c .before .before .before .before .before .before .before .before .before .before .before .before .before .before .pre .0 .each _ (omega (arith, c .before .before .before .before .before .before .before .before .before .before .loop-test .taken, c .before .before .before .before .before .before .before .before .before .before .before .before .before .before .pre .1 .0))) _ (c .before .before .before .before .before .before .before .before .record-at .ensures) _ (c .before .before .bounds .ensures) _ (c .enum-told .given .1)
 
 cast-state : tie.Need-cast-state Inv-loop μ-loop
 cast-state c =
-    omega (arith, room _ _ _ _ _ _ (c .before .before .before .before .before .before .before .before .before .before .before .before .loop .inv) (omega (arith, c .before .before .before .before .before .before .before .before .before .before .before .loop-test .taken, c .before .before .before .before .before .before .before .before .before .before .before .before .before .before .pre .0)) _ (c .before .before .before .before .before .before .before .before .before .before .record-at .ensures))
+    omega (arith, room _ _ _ _ _ (c .before .before .before .before .before .before .before .before .before .before .before .before .loop .inv) (omega (arith, c .before .before .before .before .before .before .before .before .before .before .before .loop-test .taken, c .before .before .before .before .before .before .before .before .before .before .before .before .before .before .before .pre .1 .0)))
 
 slice-aggregate-state : tie.Need-slice-aggregate-state Inv-loop μ-loop
 slice-aggregate-state c = search needs
@@ -61,48 +57,48 @@ slice-aggregate-state-2 c = search needs
 
 state-requires : tie.Need-state-requires Inv-loop μ-loop
 state-requires c κs =
-    (held _ _ _ _ _ _ (c .before .before .before .before .before .before .before .before .before .before .before .before .before .before .before .before .before .before .before .loop .inv), (c .before .before .before .before .before .before .before .before .before .before .before .before .before .before .before .before .before .before .before .loop .inv .classes-long, c .before .before .before .before .before .before .before .before .before .before .before .before .before .before .before .before .before .before .before .loop .inv .faces-long))
+    (held _ _ _ _ _ (c .before .before .before .before .before .before .before .before .before .before .before .before .before .before .before .before .before .before .before .loop .inv), (c .before .before .before .before .before .before .before .before .before .before .before .before .before .before .before .before .before .before .before .loop .inv .classes-long, c .before .before .before .before .before .before .before .before .before .before .before .before .before .before .before .before .before .before .before .loop .inv .faces-long))
 
 class-requires : tie.Need-class-requires Inv-loop μ-loop
 class-requires c κs = search needs
 
 array-write-classes : tie.Need-array-write-classes Inv-loop μ-loop
 array-write-classes c =
-    room _ _ _ _ _ _ (c .before .before .before .before .before .before .before .before .before .before .before .before .before .before .before .before .before .before .before .before .before .loop .inv) (omega (arith, c .before .before .before .before .before .before .before .before .before .before .before .before .before .before .before .before .before .before .before .before .loop-test .taken, c .before .before .before .before .before .before .before .before .before .before .before .before .before .before .before .before .before .before .before .before .before .before .before .pre .0)) _ (c .before .before .before .before .before .before .before .before .before .before .before .before .before .before .before .before .before .before .before .record-at .ensures)
+    room _ _ _ _ _ (c .before .before .before .before .before .before .before .before .before .before .before .before .before .before .before .before .before .before .before .before .before .loop .inv) (omega (arith, c .before .before .before .before .before .before .before .before .before .before .before .before .before .before .before .before .before .before .before .before .loop-test .taken, c .before .before .before .before .before .before .before .before .before .before .before .before .before .before .before .before .before .before .before .before .before .before .before .before .pre .1 .0))
 
 face-requires : tie.Need-face-requires Inv-loop μ-loop
 face-requires c κs = search needs
 
 array-write-faces : tie.Need-array-write-faces Inv-loop μ-loop
 array-write-faces c =
-    room _ _ _ _ _ _ (c .before .before .before .before .before .before .before .before .before .before .before .before .before .before .before .before .before .before .before .before .before .before .loop .inv) (omega (arith, c .before .before .before .before .before .before .before .before .before .before .before .before .before .before .before .before .before .before .before .before .before .loop-test .taken, c .before .before .before .before .before .before .before .before .before .before .before .before .before .before .before .before .before .before .before .before .before .before .before .before .pre .0)) _ (c .before .before .before .before .before .before .before .before .before .before .before .before .before .before .before .before .before .before .before .before .record-at .ensures)
+    room _ _ _ _ _ (c .before .before .before .before .before .before .before .before .before .before .before .before .before .before .before .before .before .before .before .before .before .before .loop .inv) (omega (arith, c .before .before .before .before .before .before .before .before .before .before .before .before .before .before .before .before .before .before .before .before .before .loop-test .taken, c .before .before .before .before .before .before .before .before .before .before .before .before .before .before .before .before .before .before .before .before .before .before .before .before .before .pre .1 .0))
 
 mul-low : tie.Need-mul-low Inv-loop μ-loop
 mul-low c =
-    omega (arith, room _ _ _ _ _ _ (c .before .before .before .before .before .before .before .before .before .before .before .before .before .before .before .before .before .before .before .before .before .before .before .before .loop .inv) (omega (arith, c .before .before .before .before .before .before .before .before .before .before .before .before .before .before .before .before .before .before .before .before .before .before .before .loop-test .taken, c .before .before .before .before .before .before .before .before .before .before .before .before .before .before .before .before .before .before .before .before .before .before .before .before .before .before .pre .0)) _ (c .before .before .before .before .before .before .before .before .before .before .before .before .before .before .before .before .before .before .before .before .before .before .record-at .ensures))
+    omega (arith, room _ _ _ _ _ (c .before .before .before .before .before .before .before .before .before .before .before .before .before .before .before .before .before .before .before .before .before .before .before .before .loop .inv) (omega (arith, c .before .before .before .before .before .before .before .before .before .before .before .before .before .before .before .before .before .before .before .before .before .before .before .loop-test .taken, c .before .before .before .before .before .before .before .before .before .before .before .before .before .before .before .before .before .before .before .before .before .before .before .before .before .before .before .pre .1 .0)))
 
 element-set-from-low : tie.Need-element-set-from-low Inv-loop μ-loop
 element-set-from-low c =
-    room _ _ _ _ _ _ (c .before .before .before .before .before .before .before .before .before .before .before .before .before .before .before .before .before .before .before .before .before .before .before .before .loop .inv) (omega (arith, c .before .before .before .before .before .before .before .before .before .before .before .before .before .before .before .before .before .before .before .before .before .before .before .loop-test .taken, c .before .before .before .before .before .before .before .before .before .before .before .before .before .before .before .before .before .before .before .before .before .before .before .before .before .before .pre .0)) _ (c .before .before .before .before .before .before .before .before .before .before .before .before .before .before .before .before .before .before .before .before .before .before .record-at .ensures)
+    room _ _ _ _ _ (c .before .before .before .before .before .before .before .before .before .before .before .before .before .before .before .before .before .before .before .before .before .before .before .before .loop .inv) (omega (arith, c .before .before .before .before .before .before .before .before .before .before .before .before .before .before .before .before .before .before .before .before .before .before .before .loop-test .taken, c .before .before .before .before .before .before .before .before .before .before .before .before .before .before .before .before .before .before .before .before .before .before .before .before .before .before .before .pre .1 .0))
 
 mul-high : tie.Need-mul-high Inv-loop μ-loop
 mul-high c =
-    omega (arith, room _ _ _ _ _ _ (c .before .before .before .before .before .before .before .before .before .before .before .before .before .before .before .before .before .before .before .before .before .before .before .before .loop .inv) (omega (arith, c .before .before .before .before .before .before .before .before .before .before .before .before .before .before .before .before .before .before .before .before .before .before .before .loop-test .taken, c .before .before .before .before .before .before .before .before .before .before .before .before .before .before .before .before .before .before .before .before .before .before .before .before .before .before .pre .0)) _ (c .before .before .before .before .before .before .before .before .before .before .before .before .before .before .before .before .before .before .before .before .before .before .record-at .ensures))
+    omega (arith, room _ _ _ _ _ (c .before .before .before .before .before .before .before .before .before .before .before .before .before .before .before .before .before .before .before .before .before .before .before .before .loop .inv) (omega (arith, c .before .before .before .before .before .before .before .before .before .before .before .before .before .before .before .before .before .before .before .before .before .before .before .loop-test .taken, c .before .before .before .before .before .before .before .before .before .before .before .before .before .before .before .before .before .before .before .before .before .before .before .before .before .before .before .pre .1 .0)))
 
 element-set-from-high : tie.Need-element-set-from-high Inv-loop μ-loop
 element-set-from-high c =
-    room _ _ _ _ _ _ (c .before .before .before .before .before .before .before .before .before .before .before .before .before .before .before .before .before .before .before .before .before .before .before .before .loop .inv) (omega (arith, c .before .before .before .before .before .before .before .before .before .before .before .before .before .before .before .before .before .before .before .before .before .before .before .loop-test .taken, c .before .before .before .before .before .before .before .before .before .before .before .before .before .before .before .before .before .before .before .before .before .before .before .before .before .before .pre .0)) _ (c .before .before .before .before .before .before .before .before .before .before .before .before .before .before .before .before .before .before .before .before .before .before .record-at .ensures)
+    room _ _ _ _ _ (c .before .before .before .before .before .before .before .before .before .before .before .before .before .before .before .before .before .before .before .before .before .before .before .before .loop .inv) (omega (arith, c .before .before .before .before .before .before .before .before .before .before .before .before .before .before .before .before .before .before .before .before .before .before .before .loop-test .taken, c .before .before .before .before .before .before .before .before .before .before .before .before .before .before .before .before .before .before .before .before .before .before .before .before .before .before .before .pre .1 .0))
 
 add-b : tie.Need-add-b Inv-loop μ-loop
 add-b c =
-    omega (arith, room _ _ _ _ _ _ (c .before .before .before .before .before .before .before .before .before .before .before .before .before .before .before .before .before .before .before .before .before .before .before .before .loop .inv) (omega (arith, c .before .before .before .before .before .before .before .before .before .before .before .before .before .before .before .before .before .before .before .before .before .before .before .loop-test .taken, c .before .before .before .before .before .before .before .before .before .before .before .before .before .before .before .before .before .before .before .before .before .before .before .before .before .before .pre .0)) _ (c .before .before .before .before .before .before .before .before .before .before .before .before .before .before .before .before .before .before .before .before .before .before .record-at .ensures))
+    omega (arith, room _ _ _ _ _ (c .before .before .before .before .before .before .before .before .before .before .before .before .before .before .before .before .before .before .before .before .before .before .before .before .loop .inv) (omega (arith, c .before .before .before .before .before .before .before .before .before .before .before .before .before .before .before .before .before .before .before .before .before .before .before .loop-test .taken, c .before .before .before .before .before .before .before .before .before .before .before .before .before .before .before .before .before .before .before .before .before .before .before .before .before .before .before .pre .1 .0)))
 
 loop-less : tie.Need-loop-less Inv-loop μ-loop
 loop-less c = omega arith
 
 loop-again : tie.Need-loop-again Inv-loop μ-loop
 loop-again c =
-    filling-next _ _ _ _ _ _ (c .before .before .before .before .before .before .before .before .before .before .before .before .before .before .before .before .before .before .before .before .before .before .before .before .loop .inv) (omega (arith, c .before .before .before .before .before .before .before .before .before .before .before .before .before .before .before .before .before .before .before .before .before .before .before .loop-test .taken, c .before .before .before .before .before .before .before .before .before .before .before .before .before .before .before .before .before .before .before .before .before .before .before .before .before .before .pre .0)) _ (c .before .before .before .before .before .before .before .before .before .before .before .before .before .before .before .before .before .before .before .before .before .before .record-at .ensures) _ (c .before .before .before .before .before .before .before .before .before .before .before .before .before .before .before .bounds .ensures) _ (c .before .before .before .before .before .before .before .before .before .before .before .before .before .v .given .1) _ _ _ (c .before .before .before .before .state .ensures) (c .before .before .before .class .ensures) (c .before .before .face .ensures)
+    filling-next _ _ _ _ _ (c .before .before .before .before .before .before .before .before .before .before .before .before .before .before .before .before .before .before .before .before .before .before .before .before .loop .inv) (omega (arith, c .before .before .before .before .before .before .before .before .before .before .before .before .before .before .before .before .before .before .before .before .before .before .before .loop-test .taken, c .before .before .before .before .before .before .before .before .before .before .before .before .before .before .before .before .before .before .before .before .before .before .before .before .before .before .before .pre .1 .0)) _ (c .before .before .before .before .before .before .before .before .before .before .before .before .before .before .before .before .before .before .before .before .before .before .before .before .before .before .before .pre .0 .each _ (omega (arith, c .before .before .before .before .before .before .before .before .before .before .before .before .before .before .before .before .before .before .before .before .before .before .before .loop-test .taken, c .before .before .before .before .before .before .before .before .before .before .before .before .before .before .before .before .before .before .before .before .before .before .before .before .before .before .before .pre .1 .0))) _ (c .before .before .before .before .before .before .before .before .before .before .before .before .before .before .before .before .before .before .before .before .before .record-at .ensures) _ (c .before .before .before .before .before .before .before .before .before .before .before .before .before .before .before .bounds .ensures) _ (c .before .before .before .before .before .before .before .before .before .before .before .before .before .v .given .1) _ _ _ (c .before .before .before .before .state .ensures) (c .before .before .before .class .ensures) (c .before .before .face .ensures)
 
 slice-aggregate-state-at : tie.Need-slice-aggregate-state-at Inv-loop μ-loop
 slice-aggregate-state-at c = search needs
@@ -116,7 +112,7 @@ state-at-requires c κs =
 
 returns-2 : tie.Need-returns-2 Inv-loop μ-loop
 returns-2 c =
-    judged-end _ _ _ _ _ _ (c .before .before .before .before .loop .inv) _ _ (omega arith) (c .state-at .ensures)
+    judged-end _ _ _ _ _ (c .before .before .before .before .loop .inv) _ _ (omega (arith, c .before .before .before .loop-test .left, c .before .before .before .before .before .before .before .pre .1 .0)) (c .state-at .ensures)
 
 pub judge-spec : {M : Type 1} → statement M
 judge-spec =
@@ -125,11 +121,10 @@ judge-spec =
     Inv-loop
     μ-loop
     loop-holds
+    mul-record-at
+    shared-slice-read-record-at
+    cast-record-at
     record-at-requires
-    add-next
-    shared-slice-read-next
-    cast-next
-    add-next-2
     bounds-requires
     enum-known-v
     enum-told

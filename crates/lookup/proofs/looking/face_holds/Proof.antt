@@ -9,7 +9,7 @@ cube-requires c κs = search needs
 
 judge-requires : tie.Need-judge-requires
 judge-requires c κs =
-    (c .before .before .pre .0, point-near-there _ _ _ (c .before .before .pre .1) _ (c .cube .ensures))
+    (c .before .before .before .pre .0, (c .before .before .before .pre .1 .0, point-near-there _ _ _ (c .before .before .before .pre .1 .1) _ (c .cube .ensures)))
 
 enum-known-state : tie.Need-enum-known-state
 enum-known-state c = search needs
@@ -22,11 +22,11 @@ enum-told c = search needs
 
 returns : tie.Need-returns
 returns c =
-    face-known _ _ _ (c .before .before .before .before .before .before .before .pre .1) _ (c .before .before .before .before .before .cube .ensures) _ _ (c .before .before .before .before .judge .ensures) _ _ (c .before .before .state .given .1) (c .is-in .ensures)
+    face-known _ _ _ (c .before .before .before .before .before .before .before .before .pre .1 .1) _ (c .before .before .before .before .before .cube .ensures) _ _ (c .before .before .before .before .judge .ensures) _ _ (c .before .before .state .given .1) (c .is-in .ensures)
 
 returns-2 : tie.Need-returns-2
 returns-2 c =
-    face-past _ _ _ (c .before .before .before .before .before .pre .1) _ (c .before .before .before .cube .ensures) _ _ (c .before .before .judge .ensures) _ (c .enum-told .given .1)
+    face-past _ _ _ (c .before .before .before .before .before .before .pre .1 .1) _ (c .before .before .before .cube .ensures) _ _ (c .before .before .judge .ensures) _ (c .enum-told .given .1)
 
 pub face-holds-spec : {M : Type 1} → statement M
 face-holds-spec =

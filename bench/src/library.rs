@@ -1,5 +1,6 @@
 //! The proved library's calls, with replies by code and number as the baseline has them.
-use crate::baseline::{Refusal, Root};
+use crate::baseline::Root;
+use crate::records::Refusal;
 
 fn by_number(why: zone::Refusal) -> Refusal {
     (why.code(), why.number())

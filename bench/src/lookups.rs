@@ -174,17 +174,20 @@ fn row(case: &Case, map: &[u8]) {
 
 /// Compares the answers and prints the table of times.
 pub fn speed() {
-    let halls = sheets::halls().map(|case| (map_of(&case), case));
-    let others = sheets::corridors().into_iter().chain([sheets::steep()]);
-    let others: Vec<_> = others.map(|case| (map_of(&case), case)).collect();
+    let with_map = |case| (map_of(&case), case);
+    let timed: Vec<_> = sheets::corridors()
+        .into_iter()
+        .chain(sheets::halls())
+        .map(with_map)
+        .collect();
     let mut counts = Counts::default();
-    for (map, case) in halls.iter().chain(&others) {
+    for (map, case) in timed.iter().chain(&[with_map(sheets::steep())]) {
         compare(case, map, &mut counts);
     }
     counts.print();
-    println!("nanoseconds of processor time a leaf of the map, median of {RUNS} runs (least)");
+    println!("looking up: nanoseconds of processor time a leaf of the map, median of {RUNS} runs (least)");
     println!("records depth  leaves        plain Rust             library  library / plain Rust");
-    for (map, case) in &halls {
+    for (map, case) in &timed {
         row(case, map);
     }
 }

@@ -1,9 +1,12 @@
 //! Times building and looking up by the proved library beside plain Rust programs, and measures its stack.
-//! usage: bench [speed], bench lookup, bench stack, bench rooms FILE..
+//! usage: bench [build] [lookup] [stack], all three where none is named; bench rooms FILE..
 mod baseline;
 mod clock;
+mod colour;
+mod drawing;
 mod library;
 mod lookups;
+mod records;
 mod scan;
 mod sheets;
 mod stack;
@@ -14,16 +17,26 @@ use sheets::Case;
 use std::hint::black_box;
 use turns::{each, interleaved, RUNS};
 
-const USAGE: &str = "usage: bench [speed], bench lookup, bench stack, bench rooms FILE..";
+const USAGE: &str = "usage: bench [build] [lookup] [stack], bench rooms FILE..";
 
 fn main() {
     let words: Vec<String> = std::env::args().skip(1).collect();
-    match words.first().map(String::as_str) {
-        None | Some("speed") => speed(),
-        Some("lookup") => lookups::speed(),
-        Some("stack") => stack(),
-        Some("rooms") => words[1..].iter().for_each(|path| room(path)),
-        Some(_) => {
+    match words.split_first() {
+        None => [speed, lookups::speed, stack]
+            .iter()
+            .for_each(|part| part()),
+        Some((word, paths)) if word == "rooms" => paths.iter().for_each(|path| room(path)),
+        Some(_) => words.iter().for_each(|word| named(word)()),
+    }
+}
+
+/// The part of the measure that a word names.
+fn named(word: &str) -> fn() {
+    match word {
+        "build" => speed,
+        "lookup" => lookups::speed,
+        "stack" => stack,
+        _ => {
             eprintln!("{USAGE}");
             std::process::exit(2);
         }
@@ -35,7 +48,7 @@ fn leaves(map: &[u8]) -> usize {
 }
 
 fn speed() {
-    println!("nanoseconds of processor time a cube, median of {RUNS} runs (least)");
+    println!("building: nanoseconds of processor time a cube, median of {RUNS} runs (least)");
     println!("records   cubes  leaves            baseline             library  library / baseline");
     for Case {
         records,

@@ -1,5 +1,6 @@
 //! The baseline of looking up: a plain program that opens a map in one pass over its leaves, and answers by the leaf that holds the point.
-use crate::baseline::{limited_over_root, parse, satisfies, Record, Refusal, Root};
+use crate::baseline::{limited_over_root, satisfies, Root};
+use crate::records::{parse, Record, Refusal};
 
 const HEADER: usize = 19;
 

@@ -1,125 +1,13 @@
 //! Sheets to measure with: a corridor of rooms with bays, columns and domes in 50, 150 and 256 records, a round hall in 16 and in 50, one
 //! with high powers, and one that is gray to depth 10.
 use crate::baseline::Root;
-use std::collections::HashMap;
+use crate::drawing::Sheet;
 
 /// A sheet with the root and depth at which it is built.
 pub struct Case {
     pub records: usize,
     pub sheet: Vec<u8>,
     pub root: Root,
-}
-
-/// Records under construction. Each call answers a record's number, and a record that is already there is used again.
-#[derive(Default)]
-struct Sheet {
-    bytes: Vec<u8>,
-    numbers: HashMap<Vec<u8>, u8>,
-}
-
-impl Sheet {
-    fn count(&self) -> usize {
-        self.numbers.len()
-    }
-
-    fn record(&mut self, kind: u8, rest: &[u8]) -> u8 {
-        let mut made = vec![1 + rest.len() as u8, kind];
-        made.extend(rest);
-        let next = self.count();
-        if let Some(&number) = self.numbers.get(&made) {
-            return number;
-        }
-        assert!(next < 256, "a sheet has at most 256 records");
-        self.bytes.extend(&made);
-        self.numbers.insert(made, next as u8);
-        next as u8
-    }
-
-    fn constant(&mut self, c: i32) -> u8 {
-        self.record(1, &c.to_be_bytes())
-    }
-
-    /// x, y or z, by the axis 0, 1 or 2.
-    fn coordinate(&mut self, axis: u8) -> u8 {
-        self.record(2 + axis, &[])
-    }
-
-    fn sum(&mut self, a: u8, b: u8) -> u8 {
-        self.record(5, &[a, b])
-    }
-
-    fn product(&mut self, a: u8, b: u8) -> u8 {
-        self.record(7, &[a, b])
-    }
-
-    fn face(&mut self, a: u8) -> u8 {
-        self.record(16, &[a])
-    }
-
-    fn both(&mut self, p: u8, q: u8) -> u8 {
-        self.record(17, &[p, q])
-    }
-
-    fn either(&mut self, p: u8, q: u8) -> u8 {
-        self.record(18, &[p, q])
-    }
-
-    fn complement(&mut self, p: u8) -> u8 {
-        self.record(19, &[p])
-    }
-
-    fn at_most(&mut self, a: u8, c: i32) -> u8 {
-        let limit = self.constant(c);
-        let over = self.record(6, &[a, limit]);
-        self.face(over)
-    }
-
-    fn at_least(&mut self, a: u8, c: i32) -> u8 {
-        let limit = self.constant(c);
-        let under = self.record(6, &[limit, a]);
-        self.face(under)
-    }
-
-    /// Between two planes across an axis.
-    fn slab(&mut self, axis: u8, low: i32, high: i32) -> u8 {
-        let a = self.coordinate(axis);
-        let (from, to) = (self.at_least(a, low), self.at_most(a, high));
-        self.both(from, to)
-    }
-
-    fn offset(&mut self, axis: u8, centre: i32) -> u8 {
-        let (a, c) = (self.coordinate(axis), self.constant(centre));
-        self.record(6, &[a, c])
-    }
-
-    fn offset_squared(&mut self, axis: u8, centre: i32) -> u8 {
-        let offset = self.offset(axis, centre);
-        self.record(8, &[offset])
-    }
-
-    fn flat_distance_squared(&mut self, x: i32, y: i32) -> u8 {
-        let (a, b) = (self.offset_squared(0, x), self.offset_squared(1, y));
-        self.sum(a, b)
-    }
-
-    /// All heights within a radius of an upright axis.
-    fn cylinder(&mut self, x: i32, y: i32, radius: i32) -> u8 {
-        let square = self.flat_distance_squared(x, y);
-        self.at_most(square, radius * radius)
-    }
-
-    fn sphere(&mut self, [x, y, z]: [i32; 3], radius: i32) -> u8 {
-        let (flat, up) = (self.flat_distance_squared(x, y), self.offset_squared(2, z));
-        let square = self.sum(flat, up);
-        self.at_most(square, radius * radius)
-    }
-
-    fn finish(self) -> Vec<u8> {
-        let mut sheet = (1 + self.bytes.len() as u16).to_be_bytes().to_vec();
-        sheet.push(1);
-        sheet.extend(self.bytes);
-        sheet
-    }
 }
 
 /// A part of a room takes at most so many records, but for the first box; a roof can fill any number from so many on.

@@ -1,0 +1,166 @@
+//! The colour of a cube, for the plain programs: the bounds of all records over it, and the states of the logical ones.
+use crate::records::Record;
+use State::{Comp, In, Mixed, Out, Single};
+
+/// Arithmetic bounds lie in -2^60 to 2^60.
+const LIMIT: i64 = 1 << 60;
+
+#[derive(Clone, Copy, Default)]
+pub struct Interval {
+    low: i64,
+    high: i64,
+}
+
+impl Interval {
+    fn new(low: i64, high: i64) -> Interval {
+        Interval { low, high }
+    }
+
+    fn sum(self, other: Interval) -> Option<Interval> {
+        Interval::new(self.low + other.low, self.high + other.high).limited()
+    }
+
+    fn difference(self, other: Interval) -> Option<Interval> {
+        Interval::new(self.low - other.high, self.high - other.low).limited()
+    }
+
+    /// Where one of the four products does not fit an i64, an end is past the limit, as all four lie between the ends.
+    fn product(self, other: Interval) -> Option<Interval> {
+        let a = self.low.checked_mul(other.low)?;
+        let b = self.low.checked_mul(other.high)?;
+        let c = self.high.checked_mul(other.low)?;
+        let d = self.high.checked_mul(other.high)?;
+        Interval::new(a.min(b).min(c.min(d)), a.max(b).max(c.max(d))).limited()
+    }
+
+    fn square(self) -> Option<Interval> {
+        let a = self.low.checked_mul(self.low)?;
+        let b = self.high.checked_mul(self.high)?;
+        let low = if self.low >= 0 {
+            a
+        } else if self.high <= 0 {
+            b
+        } else {
+            0
+        };
+        Interval::new(low, a.max(b)).limited()
+    }
+
+    /// The interval, if its ends are within the limit.
+    fn limited(self) -> Option<Interval> {
+        (self.low >= -LIMIT && self.high <= LIMIT).then_some(self)
+    }
+}
+
+#[derive(Clone, Copy, PartialEq, Default)]
+pub enum State {
+    #[default]
+    Out,
+    In,
+    Single(u8),
+    Comp(u8),
+    Mixed,
+}
+
+impl State {
+    fn of_face(bounds: Interval, face: u8) -> State {
+        if bounds.high <= 0 {
+            In
+        } else if bounds.low > 0 {
+            Out
+        } else {
+            Single(face)
+        }
+    }
+
+    fn complement(self) -> State {
+        match self {
+            Out => In,
+            In => Out,
+            Single(face) => Comp(face),
+            Comp(face) => Single(face),
+            Mixed => Mixed,
+        }
+    }
+
+    fn both(self, other: State) -> State {
+        match (self, other) {
+            (Out, _) | (_, Out) => Out,
+            (In, state) | (state, In) => state,
+            _ => Mixed,
+        }
+    }
+
+    fn either(self, other: State) -> State {
+        match (self, other) {
+            (In, _) | (_, In) => In,
+            (Out, state) | (state, Out) => state,
+            _ => Mixed,
+        }
+    }
+
+    /// The class and face number of a leaf.
+    pub fn class(self) -> [u8; 2] {
+        match self {
+            Out => [0, 0],
+            In => [1, 0],
+            Single(face) => [2, face],
+            Comp(face) => [3, face],
+            Mixed => [4, 0],
+        }
+    }
+}
+
+#[derive(Clone, Copy)]
+pub struct Cube {
+    pub low: [i64; 3],
+    pub side: i64,
+    pub level: u8,
+}
+
+impl Cube {
+    pub fn child(self, number: i64) -> Cube {
+        let side = self.side / 2;
+        let low = std::array::from_fn(|axis| self.low[axis] + side * (number >> axis & 1));
+        Cube {
+            low,
+            side,
+            level: self.level + 1,
+        }
+    }
+
+    fn along(&self, axis: usize) -> Interval {
+        Interval::new(self.low[axis], self.low[axis] + self.side)
+    }
+}
+
+/// The solid's state over a cube, or the first record whose bounds pass the limit. An entry of the other sort is never read.
+pub fn colour(
+    records: &[Record],
+    bounds: &mut [Interval],
+    states: &mut [State],
+    cube: &Cube,
+) -> Result<State, usize> {
+    let (bounds, states) = (&mut bounds[..records.len()], &mut states[..records.len()]);
+    for (i, &record) in records.iter().enumerate() {
+        match record {
+            Record::Constant(c) => bounds[i] = Interval::new(c, c),
+            Record::X => bounds[i] = cube.along(0),
+            Record::Y => bounds[i] = cube.along(1),
+            Record::Z => bounds[i] = cube.along(2),
+            Record::Sum(a, b) => bounds[i] = bounds[a as usize].sum(bounds[b as usize]).ok_or(i)?,
+            Record::Difference(a, b) => {
+                bounds[i] = bounds[a as usize].difference(bounds[b as usize]).ok_or(i)?
+            }
+            Record::Product(a, b) => {
+                bounds[i] = bounds[a as usize].product(bounds[b as usize]).ok_or(i)?
+            }
+            Record::Square(a) => bounds[i] = bounds[a as usize].square().ok_or(i)?,
+            Record::Face(a) => states[i] = State::of_face(bounds[a as usize], i as u8),
+            Record::Both(p, q) => states[i] = states[p as usize].both(states[q as usize]),
+            Record::Either(p, q) => states[i] = states[p as usize].either(states[q as usize]),
+            Record::Complement(p) => states[i] = states[p as usize].complement(),
+        }
+    }
+    Ok(states[records.len() - 1])
+}

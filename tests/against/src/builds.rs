@@ -1,0 +1,96 @@
+//! Builds of every sort.
+
+use crate::case::{Build, Case, PLACINGS};
+use crate::damage_sheets;
+use crate::plan::{self, Plan};
+use crate::random::Random;
+use crate::{graphs, limits, rooms};
+use paper::map::{HEADER, LEAF};
+
+/// A case, and what it is an example of.
+pub struct Made {
+    pub labels: Vec<&'static str>,
+    pub case: Case,
+}
+
+/// Once in so many builds the map is one of the largest.
+const LARGEST_ONCE_IN: u64 = 10_000;
+const LARGEST_LEAVES: usize = 1_500_000;
+
+/// The build of a number.
+pub fn any(number: u64, random: &mut Random) -> Made {
+    if number % LARGEST_ONCE_IN == LARGEST_ONCE_IN / 2 {
+        let mut plan = rooms::largest(random);
+        let (d, leaves) = plan::deepest(&plan.sheet(), &plan.root, 10, LARGEST_LEAVES);
+        plan.root.d = d;
+        return lent(plan.label, plan.bytes(), &plan, leaves, random);
+    }
+    if random.once_in(8) {
+        return damaged(random);
+    }
+    let mut plan = sound(random);
+    let mut leaves = 0;
+    if plan.root.in_limits() {
+        let most = most_leaves(random);
+        leaves = plan.choose_depth(random, most);
+    }
+    lent(plan.label, plan.bytes(), &plan, leaves, random)
+}
+
+/// A sheet that replies 1 to 5 do not refuse.
+pub fn sound(random: &mut Random) -> Plan {
+    match random.below(20) {
+        0..=7 => rooms::room(random),
+        8..=12 => graphs::tame(random),
+        13..=14 => graphs::wild(random),
+        15..=17 => limits::value(random),
+        _ => limits::root_edges(random),
+    }
+}
+
+/// Small maps mostly, so that there can be many.
+pub fn most_leaves(random: &mut Random) -> usize {
+    match random.below(200) {
+        0 => 20_000,
+        1..=15 => 2_000,
+        _ => 250,
+    }
+}
+
+fn damaged(random: &mut Random) -> Made {
+    let mut plan = sound(random);
+    let (label, bytes) = damage_sheets::damaged(&plan.records, random);
+    plan.root.d = plan.root.k.min(10);
+    plan.root = plan::shallow(&bytes, &plan.root, 250);
+    lent(label, bytes, &plan, random.below(250), random)
+}
+
+/// With a buffer that is just long enough, a byte short, empty, short or longer.
+fn lent(
+    label: &'static str,
+    sheet: Vec<u8>,
+    plan: &Plan,
+    leaves: usize,
+    random: &mut Random,
+) -> Made {
+    let needed = HEADER + LEAF * leaves;
+    let (buffer, out_len) = match random.below(8) {
+        0..=2 => ("buffer: just long enough", needed),
+        3 => ("buffer: a byte short", needed - 1),
+        4 => ("buffer: empty", 0),
+        5 => ("buffer: short", random.below(needed)),
+        6 => ("buffer: a byte longer", needed + 1),
+        _ => ("buffer: longer", needed + random.below(5000)),
+    };
+    let build = Build {
+        placing: random.below(PLACINGS) as u8,
+        sheet,
+        root: plan.root,
+        out_len,
+        out_seed: random.word() | 1,
+    };
+    Made {
+        labels: vec![label, buffer],
+        case: Case::Build(build),
+    }
+}

@@ -1,0 +1,197 @@
+//! A case: one request to the server, and what comes of it.
+
+use paper::root::Root;
+use paper::Reply;
+
+/// The ways to place slices, by three bits: whether the sheet has its first byte against a guard page or its
+/// last, the same of out or the map, and whether a slice without bytes is null.
+pub const PLACINGS: usize = 8;
+
+#[derive(Clone, Debug, PartialEq, Eq)]
+pub struct Build {
+    pub placing: u8,
+    pub sheet: Vec<u8>,
+    pub root: Root,
+    pub out_len: usize,
+    pub out_seed: u64,
+}
+
+#[derive(Clone, Debug, PartialEq, Eq)]
+pub struct Lookup {
+    pub placing: u8,
+    pub sheet: Vec<u8>,
+    pub map: Vec<u8>,
+    pub points: Vec<[i32; 3]>,
+}
+
+#[derive(Clone, Debug, PartialEq, Eq)]
+pub enum Case {
+    Build(Build),
+    Lookup(Lookup),
+}
+
+/// What a call gave: a reply for a build or for each point, every byte of out, and whether what is
+/// only read is as it was.
+#[derive(Clone, Debug, PartialEq, Eq)]
+pub struct Outcome {
+    pub replies: Vec<Reply>,
+    pub out: Vec<u8>,
+    pub inputs_same: bool,
+}
+
+impl Build {
+    /// The bytes of out before the call, which the server makes from the same seed.
+    pub fn out_before(&self) -> Vec<u8> {
+        let mut seed = self.out_seed;
+        let next = || {
+            seed ^= seed << 13;
+            seed ^= seed >> 7;
+            seed ^= seed << 17;
+            seed as u8
+        };
+        std::iter::repeat_with(next).take(self.out_len).collect()
+    }
+}
+
+impl Case {
+    /// How many calls of the library it is.
+    pub fn calls(&self) -> usize {
+        match self {
+            Case::Build(_) => 1,
+            Case::Lookup(lookup) => lookup.points.len(),
+        }
+    }
+
+    pub fn out_len(&self) -> usize {
+        match self {
+            Case::Build(build) => build.out_len,
+            Case::Lookup(_) => 0,
+        }
+    }
+
+    /// The request, as tests/serve/serve.c reads it.
+    pub fn request(&self) -> Vec<u8> {
+        let mut bytes = Vec::new();
+        match self {
+            Case::Build(build) => {
+                bytes.extend([b'b', build.placing]);
+                add_slice(&mut bytes, &build.sheet);
+                add_point(&mut bytes, build.root.low);
+                bytes.extend([build.root.k, build.root.d]);
+                bytes.extend((build.out_len as u32).to_le_bytes());
+                bytes.extend(build.out_seed.to_le_bytes());
+            }
+            Case::Lookup(lookup) => {
+                bytes.extend([b'l', lookup.placing]);
+                add_slice(&mut bytes, &lookup.sheet);
+                add_slice(&mut bytes, &lookup.map);
+                bytes.extend((lookup.points.len() as u32).to_le_bytes());
+                for &point in &lookup.points {
+                    add_point(&mut bytes, point);
+                }
+            }
+        }
+        bytes
+    }
+
+    /// The case of a request, if it is one.
+    pub fn of_request(bytes: &[u8]) -> Option<Case> {
+        let mut rest = bytes;
+        let case = match take(&mut rest)? {
+            [b'b'] => Case::Build(Build {
+                placing: u8::from_le_bytes(take(&mut rest)?),
+                sheet: take_slice(&mut rest)?,
+                root: Root {
+                    low: take_point(&mut rest)?,
+                    k: u8::from_le_bytes(take(&mut rest)?),
+                    d: u8::from_le_bytes(take(&mut rest)?),
+                },
+                out_len: u32::from_le_bytes(take(&mut rest)?) as usize,
+                out_seed: u64::from_le_bytes(take(&mut rest)?),
+            }),
+            [b'l'] => Case::Lookup(Lookup {
+                placing: u8::from_le_bytes(take(&mut rest)?),
+                sheet: take_slice(&mut rest)?,
+                map: take_slice(&mut rest)?,
+                points: take_points(&mut rest)?,
+            }),
+            _ => return None,
+        };
+        rest.is_empty().then_some(case)
+    }
+}
+
+fn add_slice(bytes: &mut Vec<u8>, slice: &[u8]) {
+    bytes.extend((slice.len() as u32).to_le_bytes());
+    bytes.extend(slice);
+}
+
+fn add_point(bytes: &mut Vec<u8>, point: [i32; 3]) {
+    bytes.extend(point.iter().flat_map(|at| at.to_le_bytes()));
+}
+
+fn take<const N: usize>(rest: &mut &[u8]) -> Option<[u8; N]> {
+    let (first, after) = rest.split_first_chunk()?;
+    *rest = after;
+    Some(*first)
+}
+
+fn take_slice(rest: &mut &[u8]) -> Option<Vec<u8>> {
+    let length = u32::from_le_bytes(take(rest)?) as usize;
+    let (slice, after) = rest.split_at_checked(length)?;
+    *rest = after;
+    Some(slice.to_vec())
+}
+
+fn take_point(rest: &mut &[u8]) -> Option<[i32; 3]> {
+    let mut coordinate = || take(rest).map(i32::from_le_bytes);
+    Some([coordinate()?, coordinate()?, coordinate()?])
+}
+
+fn take_points(rest: &mut &[u8]) -> Option<Vec<[i32; 3]>> {
+    let count = u32::from_le_bytes(take(rest)?);
+    (0..count).map(|_| take_point(rest)).collect()
+}
+
+/// Bytes in hex.
+pub fn hex(bytes: &[u8]) -> String {
+    bytes.iter().map(|byte| format!("{byte:02x}")).collect()
+}
+
+/// Bytes written in hex.
+pub fn of_hex(text: &str) -> Option<Vec<u8>> {
+    let byte = |two: &[u8]| u8::from_str_radix(std::str::from_utf8(two).ok()?, 16).ok();
+    text.as_bytes().chunks(2).map(byte).collect()
+}
+
+#[cfg(test)]
+mod tests {
+    use super::*;
+
+    /// A case that is printed in hex can be run again.
+    #[test]
+    fn requests_are_read_back() {
+        let root = Root {
+            low: [-1, 2, i32::MIN],
+            k: 3,
+            d: 255,
+        };
+        let build = Case::Build(Build {
+            placing: 3,
+            sheet: vec![1, 2, 3],
+            root,
+            out_len: 70_000,
+            out_seed: u64::MAX - 1,
+        });
+        let lookup = Case::Lookup(Lookup {
+            placing: 4,
+            sheet: vec![],
+            map: vec![9; 300],
+            points: vec![[1, -2, 3], [i32::MAX, 0, -1]],
+        });
+        for case in [build, lookup] {
+            let text = hex(&case.request());
+            assert_eq!(Case::of_request(&of_hex(&text).unwrap()), Some(case));
+        }
+    }
+}

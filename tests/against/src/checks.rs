@@ -1,0 +1,199 @@
+//! The checks of a run, each of which counts as one.
+
+use crate::builds;
+use crate::case::Case;
+use crate::demand3_run::{self, Found};
+use crate::every_byte;
+use crate::group::{report, Group, Setup};
+use crate::lookups::{self, POINTS};
+use crate::server::{Server, TRESPASSES};
+use crate::slips::slips;
+use crate::tally::Tally;
+use std::time::Instant;
+
+/// How many random builds and lookups.
+pub struct Sizes {
+    pub builds: u64,
+    pub lookups: u64,
+}
+
+/// Damaged sheets and maps beside those of each byte.
+const DAMAGED: u64 = 4_000;
+/// Sheets held to demand 3, and maps with a leaf turned over.
+const SHEETS: u64 = 400;
+const TURNED_OVER: u64 = 100;
+
+fn groups(sizes: &Sizes) -> [Group; 4] {
+    [
+        Group {
+            name: "builds",
+            make: builds::any,
+            cases: sizes.builds,
+        },
+        Group {
+            name: "lookups",
+            make: lookups::any,
+            cases: sizes.lookups.div_ceil(POINTS as u64),
+        },
+        Group {
+            name: "damaged sheets",
+            make: every_byte::sheets,
+            cases: every_byte::sheet_cases() + DAMAGED,
+        },
+        Group {
+            name: "damaged maps",
+            make: every_byte::maps,
+            cases: every_byte::map_cases() + DAMAGED,
+        },
+    ]
+}
+
+/// The count of checks so far, with the time of each.
+struct Score {
+    passed: u32,
+    failed: u32,
+    since: Instant,
+}
+
+impl Score {
+    fn count(&mut self, what: &str, good: bool) {
+        let seconds = self.since.elapsed().as_secs_f64();
+        let verdict = if good { "passed" } else { "FAILED" };
+        println!("{verdict}: {what} ({seconds:.1} s)");
+        *(if good {
+            &mut self.passed
+        } else {
+            &mut self.failed
+        }) += 1;
+        self.since = Instant::now();
+    }
+}
+
+/// Runs all checks. The last line is 'N passed, M failed'.
+pub fn all(setup: &Setup, sizes: &Sizes) -> Result<bool, String> {
+    println!("library {}, seed {}", setup.library, setup.seed);
+    let mut score = Score {
+        passed: 0,
+        failed: 0,
+        since: Instant::now(),
+    };
+    guard_pages(setup, &mut score)?;
+    let mut covered = Tally::default();
+    for group in groups(sizes) {
+        let (tally, good) = group.run(setup)?;
+        let calls = format!("{} builds, {} lookups", tally.builds, tally.lookups);
+        score.count(&format!("{}: {calls}, no difference", group.name), good);
+        covered.add(&tally);
+    }
+    covered.print_labels();
+    covered.print_outcomes();
+    codes_reached(&covered, &mut score);
+    wrong_rules(setup, &mut score)?;
+    demand_3(setup, &mut score)?;
+    wrong_maps(setup, &mut score)?;
+    println!("{} passed, {} failed", score.passed, score.failed);
+    Ok(score.failed == 0)
+}
+
+/// A server that goes past a slice, or writes what is only lent for reading, stops.
+fn guard_pages(setup: &Setup, score: &mut Score) -> Result<(), String> {
+    let mut server = Server::named(&setup.library)?;
+    let mut stopped = 0;
+    for (trespass, what) in TRESPASSES {
+        if server.is_stopped_by(trespass) {
+            stopped += 1;
+        } else {
+            println!("NOT STOPPED: {what}");
+        }
+    }
+    let what = format!(
+        "guard pages: {stopped} of {} trespasses stop the server",
+        TRESPASSES.len()
+    );
+    score.count(&what, stopped == TRESPASSES.len());
+    Ok(())
+}
+
+/// Builds reach 0 to 8, lookups 0 to 5, 7, 9 and 10. No input reaches 11: bounds over a cube hold the
+/// bounds over each cube in it, so a record that passes 2^60 over a smaller cube passes it over the root.
+fn codes_reached(covered: &Tally, score: &mut Score) {
+    let reached = |counts: &[u64]| -> Vec<usize> {
+        let codes = counts.iter().enumerate();
+        codes
+            .filter(|(_, &count)| count > 0)
+            .map(|(code, _)| code)
+            .collect()
+    };
+    let good = reached(&covered.build_codes) == [0, 1, 2, 3, 4, 5, 6, 7, 8]
+        && reached(&covered.lookup_codes) == [0, 1, 2, 3, 4, 5, 7, 9, 10];
+    score.count("codes reached: every one of 0 to 10, never 11", good);
+}
+
+/// Each wrong rule is noticed by the comparison that found no difference.
+fn wrong_rules(setup: &Setup, score: &mut Score) -> Result<(), String> {
+    let (mut noticed, mut of) = (0, 0);
+    for slip in slips() {
+        let (_, difference) = slip.group.compare(setup, &slip.oracle)?;
+        of += 1;
+        match difference {
+            Some(found) => {
+                println!("    {}: case {}", slip.name, found.number);
+                noticed += 1;
+            }
+            None => println!("NOT NOTICED: {}", slip.name),
+        }
+    }
+    let what = format!("wrong rules: {noticed} of {of} noticed");
+    score.count(&what, noticed == of);
+    Ok(())
+}
+
+fn demand_3(setup: &Setup, score: &mut Score) -> Result<(), String> {
+    let Found {
+        counts,
+        point,
+        touch,
+    } = demand3_run::run(setup, SHEETS)?;
+    for told in point.iter().chain(&touch) {
+        println!("DEMAND 3: {told}");
+    }
+    let [white, black, terminal, complement, gray] = counts.by_class;
+    println!("    {} maps with {} leaves", counts.maps, counts.leaves);
+    println!(
+        "    points in closed leaves: {white} white, {black} black, {terminal} terminal, \
+         {complement} terminal by complement, {gray} gray"
+    );
+    let what = format!("demand 3, points: {} points agree", counts.points);
+    score.count(&what, point.is_none());
+    let what = format!(
+        "demand 3, no touch: {} white and black of one map, {} of two",
+        counts.pairs, counts.pairs_of_two_maps
+    );
+    score.count(&what, touch.is_none());
+    Ok(())
+}
+
+/// Maps that break demand 3 are noticed by the checks that found none.
+fn wrong_maps(setup: &Setup, score: &mut Score) -> Result<(), String> {
+    let (turned, noticed) = demand3_run::turned_over(setup, TURNED_OVER)?;
+    let strip = demand3_run::strip_is_noticed()?;
+    let touch = demand3_run::touch_is_noticed()?;
+    println!("    the strip between corners: {strip}; [0, 2] called Out touches: {touch}");
+    let what = format!("wrong maps: {noticed} of {turned} leaves turned over are noticed");
+    score.count(&what, strip && touch && turned > 0 && noticed == turned);
+    Ok(())
+}
+
+/// Runs one case again.
+pub fn replay(setup: &Setup, case: &Case) -> Result<bool, String> {
+    Ok(report(case, &mut Server::named(&setup.library)?))
+}
+
+/// Runs the case of a number of a group again.
+pub fn one_case(setup: &Setup, sizes: &Sizes, name: &str, number: u64) -> Result<bool, String> {
+    let all = groups(sizes);
+    let group = all.iter().find(|group| group.name == name);
+    let made = group.ok_or("no such group")?.case(setup.seed, number);
+    println!("{}", made.labels.join(", "));
+    replay(setup, &made.case)
+}

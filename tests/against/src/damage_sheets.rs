@@ -1,0 +1,260 @@
+//! Sheets that are damaged, byte by byte and field by field.
+
+use crate::random::Random;
+use paper::sheet::{self, Record, MOST_RECORDS};
+
+/// A sheet by its parts. What is written is these, whether they agree or not.
+struct Parts {
+    length: Length,
+    version: u8,
+    /// Each record with its count byte.
+    records: Vec<Vec<u8>>,
+    after: Vec<u8>,
+    /// How many of all bytes are left.
+    cut: Option<usize>,
+}
+
+/// The first two bytes: as many as follow, or a number whatever follows.
+enum Length {
+    Told,
+    Is(u16),
+}
+
+type Damage = fn(&mut Parts, &mut Random);
+
+const DAMAGES: [(&str, Damage); 20] = [
+    ("sheet: length", length),
+    ("sheet: version", version),
+    ("sheet: kind", kind),
+    ("sheet: count", count),
+    ("sheet: operand", operand),
+    ("sheet: constant", constant),
+    ("sheet: cut", cut),
+    ("sheet: cut, length told", cut_told),
+    ("sheet: longer", longer),
+    ("sheet: longer, length told", longer_told),
+    ("sheet: record removed", removed),
+    ("sheet: record twice", twice),
+    ("sheet: records swapped", swapped),
+    ("sheet: 256 records", records_256),
+    ("sheet: 257 records", records_257),
+    ("sheet: byte after 256 records", byte_after_256),
+    ("sheet: solid arithmetic", solid_arithmetic),
+    ("sheet: no records", no_records),
+    ("sheet: under 3 bytes", under_3),
+    ("sheet: random records", random_records),
+];
+
+/// Damages a good sheet in one field, in two, or in one byte.
+pub fn damaged(records: &[Record], random: &mut Random) -> (&'static str, Vec<u8>) {
+    if random.once_in(6) {
+        let mut bytes = sheet::write(records);
+        let at = random.below(bytes.len());
+        bytes[at] = random.byte();
+        return ("sheet: a byte", bytes);
+    }
+    let mut parts = Parts::of(records);
+    let (label, damage) = random.pick(&DAMAGES);
+    damage(&mut parts, random);
+    if random.once_in(4) {
+        random.pick(&DAMAGES).1(&mut parts, random);
+    }
+    (label, parts.bytes())
+}
+
+impl Parts {
+    fn of(records: &[Record]) -> Parts {
+        let one = |record: &Record| sheet::write(std::slice::from_ref(record))[3..].to_vec();
+        Parts {
+            length: Length::Told,
+            version: 1,
+            records: records.iter().map(one).collect(),
+            after: vec![],
+            cut: None,
+        }
+    }
+
+    fn body(&self) -> Vec<u8> {
+        let mut body = vec![self.version];
+        body.extend(self.records.concat());
+        body.extend(&self.after);
+        body
+    }
+
+    fn bytes(&self) -> Vec<u8> {
+        let body = self.body();
+        let length = match self.length {
+            Length::Told => body.len() as u16,
+            Length::Is(number) => number,
+        };
+        let mut bytes = length.to_be_bytes().to_vec();
+        bytes.extend(body);
+        bytes.truncate(self.cut.unwrap_or(bytes.len()));
+        bytes
+    }
+
+    /// One of the records, if there is one.
+    fn record(&mut self, random: &mut Random) -> Option<(usize, &mut Vec<u8>)> {
+        let count = self.records.len();
+        let number = random.below(count.max(1));
+        Some((number, self.records.get_mut(number)?))
+    }
+
+    /// Puts records before the last until there are so many.
+    fn pad(&mut self, random: &mut Random, count: usize) {
+        let before_last = self.records.len().saturating_sub(1);
+        while self.records.len() < count {
+            let some: &[u8] = random.pick(&[&[1, 2], &[1, 3], &[5, 1, 0, 0, 0, 9]]);
+            self.records.insert(before_last, some.to_vec());
+        }
+    }
+}
+
+fn length(parts: &mut Parts, random: &mut Random) {
+    let right = parts.body().len() as u16;
+    let wrong = match random.below(4) {
+        0 => right.wrapping_add(1),
+        1 => right.wrapping_sub(1),
+        2 => right.wrapping_add(256),
+        _ => random.word() as u16,
+    };
+    parts.length = Length::Is(wrong);
+}
+
+fn version(parts: &mut Parts, random: &mut Random) {
+    let any = random.byte();
+    parts.version = random.pick(&[0, 2, 255, any]);
+}
+
+fn kind(parts: &mut Parts, random: &mut Random) {
+    let some = [0, 1, 2, 4, 5, 7, 8, 9, 15, 16, 17, 18, 19, 20, 255];
+    let kind = random.pick(&some);
+    if let Some((_, record)) = parts.record(random) {
+        record[1] = kind;
+    }
+}
+
+fn count(parts: &mut Parts, random: &mut Random) {
+    let wrong = random.byte();
+    let near = random.pick(&[0, 1, 2, 3, 4, 5, 6, wrong]);
+    if let Some((_, record)) = parts.record(random) {
+        record[0] = near;
+    }
+}
+
+/// Its own number, a later one, any; in the first record with operands from some record on.
+fn operand(parts: &mut Parts, random: &mut Random) {
+    let any = random.byte();
+    let which = random.below(4);
+    let from = random.below(parts.records.len().max(1));
+    let mut numbered = parts.records.iter_mut().enumerate().skip(from);
+    let with_operands = numbered.find(|(_, record)| (3..=4).contains(&record.len()));
+    if let Some((number, record)) = with_operands {
+        let at = random.between(2, record.len() as i64 - 1) as usize;
+        record[at] = match which {
+            0 => number as u8,
+            1 => (number as u8).saturating_add(1),
+            2 => (number as u8).saturating_sub(1),
+            _ => any,
+        };
+    }
+}
+
+fn constant(parts: &mut Parts, random: &mut Random) {
+    let any = random.word() as i32;
+    let value = random.pick(&[0, 1, -1, i32::MIN, i32::MAX, any]);
+    if let Some(record) = parts.records.iter_mut().find(|record| record.len() == 6) {
+        record[2..].copy_from_slice(&value.to_be_bytes());
+    }
+}
+
+fn cut(parts: &mut Parts, random: &mut Random) {
+    parts.length = Length::Is(parts.body().len() as u16);
+    parts.cut = Some(random.below(parts.body().len() + 2));
+}
+
+fn cut_told(parts: &mut Parts, random: &mut Random) {
+    let all = parts.records.concat();
+    let left = random.below(all.len() + 1);
+    parts.records = vec![];
+    parts.after = all[..left].to_vec();
+}
+
+fn longer(parts: &mut Parts, random: &mut Random) {
+    parts.length = Length::Is(parts.body().len() as u16);
+    longer_told(parts, random);
+}
+
+fn longer_told(parts: &mut Parts, random: &mut Random) {
+    for _ in 0..random.between(1, 7) {
+        let any = random.byte();
+        parts.after.push(random.pick(&[0, 1, 2, 3, any]));
+    }
+}
+
+fn removed(parts: &mut Parts, random: &mut Random) {
+    if let Some((number, _)) = parts.record(random) {
+        parts.records.remove(number);
+    }
+}
+
+fn twice(parts: &mut Parts, random: &mut Random) {
+    if let Some((number, record)) = parts.record(random) {
+        let same = record.clone();
+        parts.records.insert(number, same);
+    }
+}
+
+fn swapped(parts: &mut Parts, random: &mut Random) {
+    let count = parts.records.len().max(1);
+    let (a, b) = (random.below(count), random.below(count));
+    if !parts.records.is_empty() {
+        parts.records.swap(a, b);
+    }
+}
+
+fn records_256(parts: &mut Parts, random: &mut Random) {
+    parts.pad(random, MOST_RECORDS);
+}
+
+fn records_257(parts: &mut Parts, random: &mut Random) {
+    parts.pad(random, MOST_RECORDS + 1);
+}
+
+fn byte_after_256(parts: &mut Parts, random: &mut Random) {
+    parts.pad(random, MOST_RECORDS);
+    parts.after.push(random.byte());
+}
+
+fn solid_arithmetic(parts: &mut Parts, _: &mut Random) {
+    parts.records.push(vec![1, 2]);
+}
+
+fn no_records(parts: &mut Parts, _: &mut Random) {
+    parts.records = vec![];
+}
+
+fn under_3(parts: &mut Parts, random: &mut Random) {
+    let any = random.word() as u16;
+    parts.length = Length::Is(random.pick(&[0, 1, any]));
+    parts.cut = Some(random.below(3));
+}
+
+/// Records of the right form with any kinds and operands.
+fn random_records(parts: &mut Parts, random: &mut Random) {
+    let forms: [(u8, &[u8]); 4] = [
+        (1, &[2, 3, 4]),
+        (2, &[8, 16, 19]),
+        (3, &[5, 6, 7, 17, 18]),
+        (5, &[1]),
+    ];
+    parts.records.clear();
+    for number in 0..random.between(1, 12) {
+        let (count, kinds) = random.pick(&forms);
+        let mut record = vec![count, random.pick(kinds)];
+        for _ in 1..count {
+            record.push(random.between(0, number) as u8);
+        }
+        parts.records.push(record);
+    }
+}

@@ -1,0 +1,213 @@
+//! Demand 3 from outside: points of fractions against the leaves of maps that the library built, and white
+//! leaves against black ones, in one map and in two of one sheet.
+
+use crate::case::{Build, Case};
+use crate::plan::{self, Plan};
+use crate::random::Random;
+use crate::server::Server;
+use crate::{graphs, rooms};
+use paper::colour::{BLACK, TERMINAL, TERMINAL_COMPLEMENT, WHITE};
+use paper::fractions::{Point, Values};
+use paper::map::{self, Leaf, HEADER, LEAF};
+use paper::root::{Cube, Root};
+use paper::sheet::{Record::*, Sheet};
+
+/// A map that the library built, its leaves with their cubes.
+pub struct Built {
+    pub root: Root,
+    pub leaves: Vec<(Cube, Leaf)>,
+}
+
+/// How many were held to the demand.
+#[derive(Default)]
+pub struct Counts {
+    pub maps: u64,
+    pub leaves: u64,
+    pub points: u64,
+    /// A point with a closed leaf that it is in, by class.
+    pub by_class: [u64; 5],
+    /// A white and a black leaf, of one map and of two.
+    pub pairs: u64,
+    pub pairs_of_two_maps: u64,
+}
+
+/// Points with high powers would need numbers of many thousands of digits.
+const MOST_DEGREE: u32 = 24;
+
+/// A sheet whose values at fractions have small powers: a room, or a graph.
+pub fn sheet(random: &mut Random) -> Plan {
+    loop {
+        let plan = match random.below(3) {
+            0 => graphs::tame(random),
+            _ => rooms::room(random),
+        };
+        if degree(&plan.sheet()) <= MOST_DEGREE {
+            return plan;
+        }
+    }
+}
+
+/// The greatest power of a point's denominator under a value of a record.
+fn degree(sheet: &Sheet) -> u32 {
+    let mut degrees: Vec<u32> = Vec::new();
+    for record in &sheet.records {
+        let degree = match *record {
+            X | Y | Z => 1,
+            Sum(a, b) | Difference(a, b) => degrees[a].max(degrees[b]),
+            Product(a, b) => degrees[a].saturating_add(degrees[b]),
+            Square(a) => degrees[a].saturating_mul(2),
+            _ => 0,
+        };
+        degrees.push(degree);
+    }
+    degrees.into_iter().fold(0, u32::max)
+}
+
+/// The library's map, opened; none if it refuses.
+pub fn built(plan: &Plan, leaves: usize, server: &mut Server) -> Result<Option<Built>, String> {
+    let case = Case::Build(Build {
+        placing: 0,
+        sheet: plan.bytes(),
+        root: plan.root,
+        out_len: HEADER + LEAF * leaves,
+        out_seed: 1,
+    });
+    let outcome = server.ask(&case)?;
+    if outcome.replies[0].code != 0 {
+        return Ok(None);
+    }
+    let opened = map::open(&outcome.out, &plan.sheet())
+        .map_err(|refusal| format!("a map that was built does not open: {refusal:?}"))?;
+    Ok(Some(Built {
+        root: opened.root,
+        leaves: opened.cubes().collect(),
+    }))
+}
+
+/// Another root for the same sheet: moved by any number of units, or by just its side, and of any size.
+pub fn other_root(root: &Root, random: &mut Random) -> Root {
+    loop {
+        let mut other = *root;
+        if random.once_in(2) {
+            other.k = random.between(0, 16).min(i64::from(root.k) + 1) as u8;
+        }
+        let side = 1i64 << root.k;
+        let just = random.below(4);
+        for axis in 0..3 {
+            let by = match just {
+                0 if axis == 0 => side,
+                0 => 0,
+                _ => random.between(-side / 2, side / 2),
+            };
+            other.low[axis] = (i64::from(root.low[axis]) + by) as i32;
+        }
+        other.d = 0;
+        if other.in_limits() {
+            return other;
+        }
+    }
+}
+
+/// Whether the demand holds of a point in a closed leaf: white outside, black inside, terminal as its face.
+fn agrees(leaf: &Leaf, at: &Values) -> bool {
+    let face = || at.holds(usize::from(leaf.colour.face));
+    match leaf.colour.class {
+        WHITE => !at.is_inside(),
+        BLACK => at.is_inside(),
+        TERMINAL => at.is_inside() == face(),
+        TERMINAL_COMPLEMENT => at.is_inside() != face(),
+        _ => true,
+    }
+}
+
+/// A point with a closed leaf that it is in and does not agree with.
+pub fn wrong_leaf(
+    sheet: &Sheet,
+    leaves: &[(Cube, Leaf)],
+    points: &[Point],
+    counts: &mut Counts,
+) -> Option<(Point, Cube, Leaf)> {
+    for point in points {
+        let at = Values::at(sheet, point);
+        counts.points += 1;
+        let around = leaves.iter().filter(|(cube, _)| point.is_in_closed(cube));
+        for (cube, leaf) in around {
+            counts.by_class[usize::from(leaf.colour.class)] += 1;
+            if !agrees(leaf, &at) {
+                return Some((*point, *cube, *leaf));
+            }
+        }
+    }
+    None
+}
+
+/// A white and a black leaf that share even a corner.
+pub fn touching(
+    some: &[(Cube, Leaf)],
+    others: &[(Cube, Leaf)],
+    pairs: &mut u64,
+) -> Option<(Cube, Cube)> {
+    let (whites, blacks) = (of_class(some, WHITE), of_class(others, BLACK));
+    *pairs += whites.len() as u64 * blacks.len() as u64;
+    let touched = |white: &Cube| blacks.iter().find(|black| black.touches(white)).copied();
+    whites
+        .iter()
+        .find_map(|white| Some((*white, touched(white)?)))
+}
+
+fn of_class(leaves: &[(Cube, Leaf)], class: u8) -> Vec<Cube> {
+    let of_class = leaves.iter().filter(|(_, leaf)| leaf.colour.class == class);
+    of_class.map(|(cube, _)| *cube).collect()
+}
+
+/// Points of a closed cube: its centre, corners, middles of edges and of sides, and any others.
+pub fn points_of(cube: &Cube, random: &mut Random) -> Vec<Point> {
+    let mut points = vec![halves(cube, [1, 1, 1])];
+    for _ in 0..3 {
+        points.push(halves(cube, [0, 1, 2].map(|_| random.pick(&[0, 2]))));
+        points.push(halves(cube, [0, 1, 2].map(|_| random.between(0, 2))));
+        points.push(fraction(cube, random));
+    }
+    points
+}
+
+/// The point so many halves of the side from the low corner.
+fn halves(cube: &Cube, steps: [i64; 3]) -> Point {
+    Point {
+        numerators: [0, 1, 2].map(|axis| 2 * cube.low[axis] + steps[axis] * cube.side),
+        denominator: 2,
+    }
+}
+
+/// Any point of the closed cube, often on a side, over a small or a large denominator.
+fn fraction(cube: &Cube, random: &mut Random) -> Point {
+    let any = random.between(1, (1 << 31) - 1);
+    let denominator = random.pick(&[1, 2, 3, 7, 10, 256, 1_000_003, (1 << 31) - 1, any]);
+    let numerators = [0, 1, 2].map(|axis| {
+        let (low, width) = (cube.low[axis] * denominator, cube.side * denominator);
+        low + match random.below(8) {
+            0 => 0,
+            1 => width,
+            2 => 1,
+            3 => width - 1,
+            _ => random.between(0, width),
+        }
+    });
+    Point {
+        numerators,
+        denominator,
+    }
+}
+
+/// A depth for a plan, and how many leaves its map has.
+pub fn depth(plan: &mut Plan, random: &mut Random) -> usize {
+    let most = match random.below(20) {
+        0 => 12_000,
+        1..=5 => 2_000,
+        _ => 300,
+    };
+    plan.root.d = plan.root.k.min(10);
+    let (d, leaves) = plan::deepest(&plan.sheet(), &plan.root, plan.root.d, most);
+    plan.root.d = d;
+    leaves
+}

@@ -1,0 +1,175 @@
+//! Runs of demand 3, and of maps that break it, which have to be noticed.
+
+use crate::demand3::{self, built, points_of, touching, wrong_leaf, Built, Counts};
+use crate::group::Setup;
+use crate::plan::Plan;
+use crate::random::Random;
+use crate::server::Server;
+use crate::slips;
+use paper::build::{map_by, Colouring};
+use paper::map::{self, Leaf};
+use paper::root::{Cube, Root};
+use paper::sheet::{Record::*, Sheet};
+
+/// How many leaves of a map points are taken of.
+const LEAVES_TRIED: usize = 8;
+
+impl Counts {
+    pub fn add(&mut self, other: &Counts) {
+        self.maps += other.maps;
+        self.leaves += other.leaves;
+        self.points += other.points;
+        self.pairs += other.pairs;
+        self.pairs_of_two_maps += other.pairs_of_two_maps;
+        for (total, count) in self.by_class.iter_mut().zip(other.by_class) {
+            *total += count;
+        }
+    }
+}
+
+/// What was counted, and what broke the demand: for points, and for touching leaves.
+#[derive(Default)]
+pub struct Found {
+    pub counts: Counts,
+    pub point: Option<String>,
+    pub touch: Option<String>,
+}
+
+/// Holds so many sheets, each with two maps, to the demand, on two servers.
+pub fn run(setup: &Setup, sheets: u64) -> Result<Found, String> {
+    let parts: Vec<Result<Found, String>> = std::thread::scope(|scope| {
+        let start = |first| scope.spawn(move || part(setup, first, sheets));
+        let threads = [0, 1].map(start);
+        threads
+            .map(|thread| thread.join().unwrap_or(Err("a thread failed".into())))
+            .into()
+    });
+    let mut all = Found::default();
+    for part in parts {
+        let part = part?;
+        all.counts.add(&part.counts);
+        all.point = all.point.or(part.point);
+        all.touch = all.touch.or(part.touch);
+    }
+    Ok(all)
+}
+
+fn part(setup: &Setup, first: u64, sheets: u64) -> Result<Found, String> {
+    let mut server = Server::named(&setup.library)?;
+    let mut found = Found::default();
+    for number in (first..sheets).step_by(2) {
+        let mut random = Random::of_case(setup.seed, "demand 3", number);
+        one_sheet(number, &mut random, &mut server, &mut found)?;
+    }
+    Ok(found)
+}
+
+/// A sheet with two maps over roots that overlap, lie side by side or are of other sizes.
+fn one_sheet(
+    number: u64,
+    random: &mut Random,
+    server: &mut Server,
+    found: &mut Found,
+) -> Result<(), String> {
+    let mut plan = demand3::sheet(random);
+    let leaves = demand3::depth(&mut plan, random);
+    let first = built(&plan, leaves, server)?;
+    let other = demand3::other_root(&plan.root, random);
+    let mut again = Plan {
+        root: other,
+        ..plan
+    };
+    let leaves = demand3::depth(&mut again, random);
+    let second = built(&again, leaves, server)?;
+    let maps: Vec<Built> = first.into_iter().chain(second).collect();
+    let sheet = again.sheet();
+    for map in &maps {
+        found.counts.maps += 1;
+        found.counts.leaves += map.leaves.len() as u64;
+        let points = points_of_map(map, random);
+        let wrong = wrong_leaf(&sheet, &map.leaves, &points, &mut found.counts);
+        let told = wrong.map(|wrong| format!("sheet {number}: {wrong:?}"));
+        found.point = found.point.take().or(told);
+    }
+    for (a, some) in maps.iter().enumerate() {
+        for (b, others) in maps.iter().enumerate() {
+            let pairs = if a == b {
+                &mut found.counts.pairs
+            } else {
+                &mut found.counts.pairs_of_two_maps
+            };
+            let touched = touching(&some.leaves, &others.leaves, pairs);
+            let told = touched.map(|pair| format!("sheet {number}: {pair:?}"));
+            found.touch = found.touch.take().or(told);
+        }
+    }
+    Ok(())
+}
+
+/// Points of the root and of some leaves.
+fn points_of_map(map: &Built, random: &mut Random) -> Vec<Point> {
+    let mut points = points_of(&map.root.cube(), random);
+    for _ in 0..LEAVES_TRIED {
+        let (cube, _) = map.leaves[random.below(map.leaves.len())];
+        points.extend(points_of(&cube, random));
+    }
+    points
+}
+
+use paper::fractions::Point;
+
+/// Turns one leaf of each of so many maps over: white to black, black to white, a face to its complement.
+/// Answers how many were turned, and how many of them points noticed.
+pub fn turned_over(setup: &Setup, sheets: u64) -> Result<(u64, u64), String> {
+    let mut server = Server::named(&setup.library)?;
+    let (mut turned, mut noticed) = (0, 0);
+    for number in 0..sheets {
+        let mut random = Random::of_case(setup.seed, "turned over", number);
+        let mut plan = demand3::sheet(&mut random);
+        let leaves = demand3::depth(&mut plan, &mut random);
+        let Some(mut map) = built(&plan, leaves, &mut server)? else {
+            continue;
+        };
+        let at = random.below(map.leaves.len());
+        let (cube, leaf) = &mut map.leaves[at];
+        let Some(class) = [1, 0, 3, 2].get(usize::from(leaf.colour.class)) else {
+            continue;
+        };
+        leaf.colour.class = *class;
+        turned += 1;
+        let points = points_of(cube, &mut random);
+        let wrong = wrong_leaf(&plan.sheet(), &map.leaves, &points, &mut Counts::default());
+        noticed += u64::from(wrong.is_some());
+    }
+    Ok((turned, noticed))
+}
+
+/// The leaves of a sheet's map over 0 to 4 at a depth, by a wrong colouring.
+fn wrong_map(colouring: &Colouring, sheet: &Sheet, d: u8) -> Result<Vec<(Cube, Leaf)>, String> {
+    let low = [0, 0, 0];
+    let opened = map_by(colouring, sheet, &Root { low, k: 2, d })
+        .and_then(|bytes| map::open(&bytes, sheet))
+        .map_err(|refusal| format!("{refusal:?}"))?;
+    Ok(opened.cubes().collect())
+}
+
+/// The strip with x from 1 to 2 misses every corner of a cube with x from 0 to 4: white by corners.
+pub fn strip_is_noticed() -> Result<bool, String> {
+    let mut strip = crate::maker::Maker::default();
+    let solid = strip.between(0, 1, 2);
+    let records = strip.with_solid(solid);
+    let sheet = Sheet { records };
+    let leaves = wrong_map(&slips::corners, &sheet, 0)?;
+    let point = Point {
+        numerators: [3, 1, 1],
+        denominator: 2,
+    };
+    Ok(wrong_leaf(&sheet, &leaves, &[point], &mut Counts::default()).is_some())
+}
+
+/// With [0, 2] called Out, white at x from 2 to 4 touches black at x from 0 to 2.
+pub fn touch_is_noticed() -> Result<bool, String> {
+    let records = vec![X, Constant(2), Difference(0, 1), Face(2), Both(3, 3)];
+    let leaves = wrong_map(&slips::zero_out, &Sheet { records }, 1)?;
+    Ok(touching(&leaves, &leaves, &mut 0).is_some())
+}

@@ -1,0 +1,171 @@
+//! Each byte of some sheets and some maps, changed to other values.
+
+use crate::builds::Made;
+use crate::case::{Build, Case, Lookup, PLACINGS};
+use crate::lookups;
+use crate::maker::Maker;
+use crate::maps;
+use crate::plan;
+use crate::random::Random;
+use crate::{damage_maps, damage_sheets};
+use paper::build::map_of;
+use paper::root::Root;
+use paper::sheet::{self, Record::*};
+
+/// A small sheet and its root; each byte is changed to so many other values.
+struct Small {
+    sheet: Vec<u8>,
+    root: Root,
+    values: u64,
+}
+
+fn small() -> [Small; 3] {
+    let root = |low, k, d| Root { low, k, d };
+    let step_room = [
+        X,
+        Y,
+        Constant(2),
+        Difference(0, 2),
+        Difference(1, 2),
+        Face(3),
+        Face(4),
+        Both(5, 6),
+    ];
+    let mut ring = Maker::default();
+    let torus = ring.torus([1, -1, 0], 3, 1);
+    let around = ring.add(Complement(torus));
+    let slab = ring.between(2, -1, 1);
+    let solid = ring.add(Either(around, slab));
+    [
+        Small {
+            sheet: sheet::write(&step_room),
+            root: root([0, 0, 0], 2, 1),
+            values: 255,
+        },
+        Small {
+            sheet: sheet::write(&ring.with_solid(solid)),
+            root: root([-4, -4, -4], 3, 2),
+            values: 8,
+        },
+        Small {
+            sheet: sheet::write(&[Z, Square(0), Face(1), Complement(2), Complement(3)]),
+            root: root([-8, 5, -3], 3, 3),
+            values: 16,
+        },
+    ]
+}
+
+/// How many cases `sheets` has: each changed sheet is built and looked up by.
+pub fn sheet_cases() -> u64 {
+    let cases = |small: &Small| 2 * small.sheet.len() as u64 * small.values;
+    small().iter().map(cases).sum()
+}
+
+/// How many cases `maps` has.
+pub fn map_cases() -> u64 {
+    let cases = |small: &Small| small.map().len() as u64 * small.values;
+    small().iter().map(cases).sum()
+}
+
+impl Small {
+    fn map(&self) -> Vec<u8> {
+        map_of(&self.sheet, &self.root).expect("it is built")
+    }
+
+    fn lookup(&self, sheet: Vec<u8>, map: Vec<u8>, random: &mut Random) -> Case {
+        let point = maps::point(&self.root, random);
+        Case::Lookup(Lookup {
+            placing: random.below(PLACINGS) as u8,
+            sheet,
+            map,
+            points: vec![point],
+        })
+    }
+
+    fn build(&self, sheet: Vec<u8>, random: &mut Random) -> Case {
+        Case::Build(Build {
+            placing: random.below(PLACINGS) as u8,
+            sheet,
+            root: self.root,
+            out_len: self.map().len() + random.below(20),
+            out_seed: random.word() | 1,
+        })
+    }
+}
+
+/// Changes the byte of a number to the value of a number, never to what it was.
+fn changed(bytes: &[u8], number: u64, small: &Small, random: &mut Random) -> Vec<u8> {
+    let mut bytes = bytes.to_vec();
+    let byte = &mut bytes[(number / small.values) as usize];
+    let step = match small.values {
+        255 => 1 + number % 255,
+        _ => 1 + random.below(255) as u64,
+    };
+    *byte = byte.wrapping_add(step as u8);
+    bytes
+}
+
+/// Each byte of each small sheet in turn.
+pub fn sheets(mut number: u64, random: &mut Random) -> Made {
+    for small in small() {
+        let cases = 2 * small.sheet.len() as u64 * small.values;
+        if number < cases {
+            let sheet = changed(&small.sheet, number / 2, &small, random);
+            let case = match number % 2 {
+                0 => small.build(sheet, random),
+                _ => small.lookup(sheet, small.map(), random),
+            };
+            let labels = vec!["each byte of a sheet"];
+            return Made { labels, case };
+        }
+        number -= cases;
+    }
+    damaged_sheet(number, random)
+}
+
+/// Each byte of each small map in turn.
+pub fn maps(mut number: u64, random: &mut Random) -> Made {
+    for small in small() {
+        let map = small.map();
+        let cases = map.len() as u64 * small.values;
+        if number < cases {
+            let map = changed(&map, number, &small, random);
+            let case = small.lookup(small.sheet.clone(), map, random);
+            let labels = vec!["each byte of a map"];
+            return Made { labels, case };
+        }
+        number -= cases;
+    }
+    damaged_map(random)
+}
+
+/// After the bytes the fields, of any sheet: built and looked up by.
+pub fn damaged_sheet(_: u64, random: &mut Random) -> Made {
+    let (plan, map) = lookups::planned(random);
+    let (label, sheet) = damage_sheets::damaged(&plan.records, random);
+    let one = Small {
+        sheet: plan.bytes(),
+        root: plan::shallow(&sheet, &plan.root, 250),
+        values: 1,
+    };
+    let case = match random.below(2) {
+        0 => one.build(sheet, random),
+        _ => one.lookup(sheet, map, random),
+    };
+    let labels = vec![label];
+    Made { labels, case }
+}
+
+/// The fields of any map.
+fn damaged_map(random: &mut Random) -> Made {
+    let (plan, map) = lookups::planned(random);
+    let (label, map) = damage_maps::damaged(&map, random);
+    let one = Small {
+        sheet: plan.bytes(),
+        root: plan.root,
+        values: 1,
+    };
+    let case = one.lookup(plan.bytes(), map, random);
+    let labels = vec![label];
+    Made { labels, case }
+}

@@ -1,0 +1,41 @@
+//! What document 01 says comes of a case.
+
+use crate::case::{Build, Case, Lookup, Outcome};
+use paper::{build, lookup, Refusal, Reply};
+
+/// What says what must come of a case. There is one by the paper, and one for each wrong rule.
+pub type Oracle = dyn Fn(&Case) -> Outcome + Sync;
+
+/// By the paper.
+pub fn by_paper(case: &Case) -> Outcome {
+    match case {
+        Case::Build(asked) => of_map(asked, build::map_of(&asked.sheet, &asked.root)),
+        Case::Lookup(asked) => match lookup::open(&asked.sheet, &asked.map) {
+            Ok(opened) => of_answers(asked, &|point| opened.answer(point)),
+            Err(refusal) => of_answers(asked, &|_| refusal),
+        },
+    }
+}
+
+/// What comes of a build whose map, or refusal but for a short buffer, is this.
+pub fn of_map(asked: &Build, map: Result<Vec<u8>, Refusal>) -> Outcome {
+    let mut out = asked.out_before();
+    let reply = match map {
+        Ok(map) => build::lend(&map, &mut out),
+        Err(refusal) => refusal,
+    };
+    Outcome {
+        replies: vec![reply],
+        out,
+        inputs_same: true,
+    }
+}
+
+/// What comes of lookups with these replies.
+pub fn of_answers(asked: &Lookup, answer: &dyn Fn([i32; 3]) -> Reply) -> Outcome {
+    Outcome {
+        replies: asked.points.iter().map(|&point| answer(point)).collect(),
+        out: vec![],
+        inputs_same: true,
+    }
+}

@@ -1,0 +1,136 @@
+//! A group of cases, run on two servers and compared.
+
+use crate::builds::Made;
+use crate::case::{hex, Case, Outcome};
+use crate::expect::{by_paper, Oracle};
+use crate::random::Random;
+use crate::server::Server;
+use crate::shrink;
+use crate::tally::Tally;
+
+/// Makes the case of a number; the randomness is that case's own.
+pub type Make = fn(u64, &mut Random) -> Made;
+
+pub struct Group {
+    pub name: &'static str,
+    pub make: Make,
+    pub cases: u64,
+}
+
+/// What all groups of a run have in common.
+pub struct Setup {
+    pub seed: u64,
+    /// Which server: "shipped" or "native".
+    pub library: String,
+}
+
+const THREADS: u64 = 2;
+
+/// A case that the library answers otherwise than the oracle says.
+pub struct Difference {
+    pub number: u64,
+    pub case: Case,
+}
+
+impl Group {
+    pub fn case(&self, seed: u64, number: u64) -> Made {
+        (self.make)(number, &mut Random::of_case(seed, self.name, number))
+    }
+
+    /// Runs all cases. A difference is shrunk and printed. Answers what was covered, and whether there was
+    /// no difference.
+    pub fn run(&self, setup: &Setup) -> Result<(Tally, bool), String> {
+        let (tally, difference) = self.compare(setup, &by_paper)?;
+        if let Some(found) = &difference {
+            let mut server = Server::named(&setup.library)?;
+            println!(
+                "DIFFERENCE in {}, case {} of seed {}",
+                self.name, found.number, setup.seed
+            );
+            report(&shrink::shrunk(&found.case, &mut server), &mut server);
+            println!(
+                "the whole case: case '{}' {} seed {}",
+                self.name, found.number, setup.seed
+            );
+        }
+        Ok((tally, difference.is_none()))
+    }
+
+    /// Compares the library with an oracle, up to the first difference of each thread. Answers the first.
+    pub fn compare(
+        &self,
+        setup: &Setup,
+        oracle: &Oracle,
+    ) -> Result<(Tally, Option<Difference>), String> {
+        let parts: Result<Vec<_>, String> = std::thread::scope(|scope| {
+            let start = |first| scope.spawn(move || self.part(setup, oracle, first));
+            let threads: Vec<_> = (0..THREADS).map(start).collect();
+            let ended = threads.into_iter().map(|thread| thread.join());
+            ended
+                .map(|part| part.unwrap_or(Err("a thread failed".into())))
+                .collect()
+        });
+        let mut all = Tally::default();
+        let mut differences = Vec::new();
+        for (tally, difference) in parts? {
+            all.add(&tally);
+            differences.extend(difference);
+        }
+        let first = differences.into_iter().min_by_key(|found| found.number);
+        Ok((all, first))
+    }
+
+    /// Every second case, on a server of its own.
+    fn part(
+        &self,
+        setup: &Setup,
+        oracle: &Oracle,
+        first: u64,
+    ) -> Result<(Tally, Option<Difference>), String> {
+        let mut server = Server::named(&setup.library)?;
+        let mut tally = Tally::default();
+        for number in (first..self.cases).step_by(THREADS as usize) {
+            let made = self.case(setup.seed, number);
+            let expected = oracle(&made.case);
+            tally.count(&made, &expected);
+            if server.ask(&made.case) != Ok(expected) {
+                let case = made.case;
+                return Ok((tally, Some(Difference { number, case })));
+            }
+        }
+        Ok((tally, None))
+    }
+}
+
+/// Runs one case and prints both answers. Answers whether they are the same.
+pub fn report(case: &Case, server: &mut Server) -> bool {
+    let (expected, given) = (by_paper(case), server.ask(case));
+    println!("run it again: replay {}", hex(&case.request()));
+    println!("  the paper:   {}", answer(&expected));
+    match &given {
+        Ok(outcome) => println!("  the library: {}", answer(outcome)),
+        Err(stopped) => println!("  the library: {stopped}"),
+    }
+    if let Ok(outcome) = &given {
+        let mut bytes = expected.out.iter().zip(&outcome.out);
+        if let Some(at) = bytes.position(|(a, b)| a != b) {
+            println!("  the first byte of out that differs: {at}");
+        }
+    }
+    given == Ok(expected)
+}
+
+/// An outcome in one line; of a long buffer only the start.
+fn answer(outcome: &Outcome) -> String {
+    let replies = outcome.replies.iter();
+    let replies: Vec<String> = replies
+        .map(|reply| format!("{} with {}", reply.code, reply.number))
+        .collect();
+    let shown = &outcome.out[..outcome.out.len().min(200)];
+    let changed = if outcome.inputs_same {
+        ""
+    } else {
+        ", sheet or map changed"
+    };
+    format!("{}{changed}, out {}", replies.join(", "), hex(shown))
+}

@@ -1,0 +1,85 @@
+//! A sheet and a root to build it over, what it is an example of, and how deep a map of it may be.
+
+use crate::random::Random;
+use paper::colour::{self, GRAY};
+use paper::root::{Cube, Root, FURTHEST};
+use paper::sheet::{Record, Sheet};
+
+pub struct Plan {
+    pub label: &'static str,
+    pub records: Vec<Record>,
+    pub root: Root,
+}
+
+impl Plan {
+    pub fn sheet(&self) -> Sheet {
+        Sheet {
+            records: self.records.clone(),
+        }
+    }
+
+    pub fn bytes(&self) -> Vec<u8> {
+        paper::sheet::write(&self.records)
+    }
+
+    /// Chooses a depth whose map has at most so many leaves. Answers how many: none if it is refused.
+    pub fn choose_depth(&mut self, random: &mut Random, most_leaves: usize) -> usize {
+        let wanted = random.between(0, i64::from(self.root.k.min(10))) as u8;
+        let wanted = wanted.max(random.between(0, i64::from(self.root.k.min(10))) as u8);
+        let (d, leaves) = deepest(&self.sheet(), &self.root, wanted, most_leaves);
+        self.root.d = d;
+        leaves
+    }
+}
+
+/// A root of side 2^k in limits, of depth 0.
+pub fn root(random: &mut Random, k: u8) -> Root {
+    let side = 1 << k;
+    let highest = FURTHEST - side;
+    let mut low = || {
+        let at = match random.below(6) {
+            0 => -FURTHEST,
+            1 => highest,
+            2 | 3 => random.between(-side, 0),
+            4 => random.between(-1000, 1000),
+            _ => random.between(-FURTHEST, highest),
+        };
+        at.clamp(-FURTHEST, highest) as i32
+    };
+    Root {
+        low: [low(), low(), low()],
+        k,
+        d: 0,
+    }
+}
+
+/// The greatest depth, at most the wanted one, whose map has at most so many leaves, and how many it has.
+pub fn deepest(sheet: &Sheet, root: &Root, wanted: u8, most_leaves: usize) -> (u8, usize) {
+    let is_gray = |cube: &Cube| colour::colour(sheet, cube).map(|colour| colour.class == GRAY);
+    let mut grays = match is_gray(&root.cube()) {
+        Err(_) => return (wanted, 0),
+        Ok(gray) => vec![root.cube(); usize::from(gray)],
+    };
+    let mut leaves = 1;
+    for depth in 0..wanted {
+        let split = leaves + 7 * grays.len();
+        if split > most_leaves {
+            return (depth, leaves);
+        }
+        leaves = split;
+        let children = grays.iter().flat_map(Cube::children);
+        grays = children.filter(|cube| is_gray(cube) == Ok(true)).collect();
+    }
+    (wanted, leaves)
+}
+
+/// The root with a depth at which a sheet, damaged or not, has a map of at most so many leaves.
+pub fn shallow(bytes: &[u8], root: &Root, most_leaves: usize) -> Root {
+    match paper::sheet::read(bytes) {
+        Ok(sheet) if root.in_limits() => {
+            let d = deepest(&sheet, root, root.d, most_leaves).0;
+            Root { d, ..*root }
+        }
+        _ => *root,
+    }
+}

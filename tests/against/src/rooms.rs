@@ -1,0 +1,233 @@
+//! Realistic rooms.
+
+use crate::maker::Maker;
+use crate::plan::{self, Plan};
+use crate::random::Random;
+use paper::root::Root;
+use paper::sheet::Record::*;
+
+/// A room that is being drawn, about its root.
+struct Drawing<'a> {
+    random: &'a mut Random,
+    maker: Maker,
+    root: Root,
+}
+
+type Shape = fn(&mut Drawing) -> usize;
+
+const SHAPES: [(&str, Shape); 11] = [
+    ("room: box", boxed),
+    ("room: cylinder", cylinder),
+    ("room: sphere", sphere),
+    ("room: torus", torus),
+    ("room: L shape", l_shape),
+    ("room: round bay", round_bay),
+    ("room: wall one unit thin", thin_wall),
+    ("room: less a column", column),
+    ("room: slanted faces", slanted),
+    ("room: a face twice", face_twice),
+    ("room: complement of a complement", twice_complement),
+];
+
+pub fn room(random: &mut Random) -> Plan {
+    let k = random.between(2, 16).min(random.between(4, 16)) as u8;
+    let k = if random.once_in(12) { k % 3 } else { k };
+    let root = plan::root(random, k);
+    let (label, shape) = random.pick(&SHAPES);
+    drawn(random, root, label, shape)
+}
+
+/// A solid that is gray all over a sphere: with a deep root it has the largest maps.
+pub fn largest(random: &mut Random) -> Plan {
+    let root = plan::root(random, 12);
+    let label = "room: of the largest maps";
+    drawn(random, root, label, |drawing| {
+        let centre = [0, 1, 2].map(|axis| i64::from(drawing.root.low[axis]) + 2048);
+        let radius = drawing.random.between(1500, 1900);
+        let face = drawing.maker.round(&centre, radius);
+        drawing.maker.add(Both(face, face))
+    })
+}
+
+fn drawn(random: &mut Random, root: Root, label: &'static str, shape: Shape) -> Plan {
+    let share = !random.once_in(3);
+    let mut drawing = Drawing {
+        random,
+        maker: Maker {
+            share,
+            ..Maker::default()
+        },
+        root,
+    };
+    let solid = shape(&mut drawing);
+    let records = drawing.maker.with_solid(solid);
+    Plan {
+        label,
+        records,
+        root,
+    }
+}
+
+impl Drawing<'_> {
+    /// A size up to the root's side.
+    fn size(&mut self) -> i64 {
+        self.random.between(1, 1 << self.root.k)
+    }
+
+    /// A coordinate in the root or near it.
+    fn along(&mut self, axis: usize) -> i64 {
+        let side = 1i64 << self.root.k;
+        let low = i64::from(self.root.low[axis]);
+        low + self.random.between(-side / 4, side + side / 4)
+    }
+
+    fn centre(&mut self) -> [i64; 3] {
+        [0, 1, 2].map(|axis| self.along(axis))
+    }
+
+    /// From a coordinate to a later one.
+    fn stretch(&mut self, axis: usize) -> [i64; 2] {
+        let low = self.along(axis);
+        [low, low + self.size()]
+    }
+
+    /// What is over a floor plan, from floor to ceiling.
+    fn storey(&mut self, floor_plan: usize) -> usize {
+        let z = self.stretch(2);
+        let heights = self.maker.between(2, z[0], z[1]);
+        self.maker.add(Both(floor_plan, heights))
+    }
+}
+
+fn boxed(drawing: &mut Drawing) -> usize {
+    let (x, y) = (drawing.stretch(0), drawing.stretch(1));
+    let floor_plan = drawing.maker.rectangle(x, y);
+    drawing.storey(floor_plan)
+}
+
+fn cylinder(drawing: &mut Drawing) -> usize {
+    let (centre, radius) = (drawing.centre(), drawing.size());
+    let floor_plan = drawing.maker.round(&centre[..2], radius);
+    drawing.storey(floor_plan)
+}
+
+fn sphere(drawing: &mut Drawing) -> usize {
+    let (centre, radius) = (drawing.centre(), drawing.size());
+    let ball = drawing.maker.round(&centre, radius);
+    if drawing.random.once_in(2) {
+        return ball;
+    }
+    drawing.storey(ball)
+}
+
+fn torus(drawing: &mut Drawing) -> usize {
+    let centre = drawing.centre();
+    let large = drawing.size();
+    let small = drawing.random.between(0, large);
+    let ring = drawing.maker.torus(centre, large, small);
+    if drawing.random.once_in(4) {
+        return ring;
+    }
+    let cut = boxed(drawing);
+    drawing.maker.add(Both(ring, cut))
+}
+
+/// Two rectangles from one corner: they share two walls.
+fn l_shape(drawing: &mut Drawing) -> usize {
+    let (x, y) = (drawing.stretch(0), drawing.stretch(1));
+    let (wide, long) = (drawing.size(), drawing.size());
+    let parlour = drawing.maker.rectangle([x[0], x[1] + wide], y);
+    let bedroom = drawing.maker.rectangle(x, [y[0], y[1] + long]);
+    let floor_plan = drawing.maker.add(Either(parlour, bedroom));
+    drawing.storey(floor_plan)
+}
+
+/// A rectangle with a half-round bay on a long wall.
+fn round_bay(drawing: &mut Drawing) -> usize {
+    let (x, y) = (drawing.stretch(0), drawing.stretch(1));
+    let middle = [(x[0] + x[1]) / 2, y[1]];
+    let radius = ((x[1] - x[0]) / 3).max(1);
+    let plain = drawing.maker.rectangle(x, y);
+    let bay = drawing.maker.round(&middle, radius);
+    let floor_plan = drawing.maker.add(Either(plain, bay));
+    drawing.storey(floor_plan)
+}
+
+/// Two rooms with a wall one unit thin between them, across x or y.
+fn thin_wall(drawing: &mut Drawing) -> usize {
+    let across = drawing.random.below(2);
+    let wall = drawing.along(across);
+    let (before, after) = (drawing.size(), drawing.size());
+    let left = drawing.maker.between(across, wall - before, wall);
+    let right = drawing.maker.between(across, wall + 1, wall + 1 + after);
+    let rooms = drawing.maker.add(Either(left, right));
+    let other = drawing.stretch(1 - across);
+    let depth = drawing.maker.between(1 - across, other[0], other[1]);
+    let floor_plan = drawing.maker.add(Both(rooms, depth));
+    drawing.storey(floor_plan)
+}
+
+fn column(drawing: &mut Drawing) -> usize {
+    let room = boxed(drawing);
+    let (centre, radius) = (drawing.centre(), drawing.size());
+    let column = drawing.maker.round(&centre[..2], 1 + radius / 4);
+    let around = drawing.maker.add(Complement(column));
+    drawing.maker.add(Both(room, around))
+}
+
+/// Two to four half-spaces a x + b y + c z at most e, through points near the root.
+fn slanted(drawing: &mut Drawing) -> usize {
+    let mut solid = half_space(drawing);
+    for _ in 0..drawing.random.between(1, 3) {
+        let other = half_space(drawing);
+        let joined = drawing.random.once_in(2);
+        solid = drawing.maker.add(if joined {
+            Both(solid, other)
+        } else {
+            Either(solid, other)
+        });
+    }
+    solid
+}
+
+fn half_space(drawing: &mut Drawing) -> usize {
+    let through = drawing.centre();
+    let mut limit = 0;
+    let mut total = drawing.maker.constant(0);
+    for (axis, at) in through.into_iter().enumerate() {
+        let factor = drawing.random.between(-5, 5);
+        limit += factor * at;
+        let (by, along) = (drawing.maker.constant(factor), drawing.maker.axis(axis));
+        let term = drawing.maker.add(Product(by, along));
+        total = drawing.maker.add(Sum(total, term));
+    }
+    let limit = drawing.maker.constant(limit);
+    drawing.maker.at_most(total, limit)
+}
+
+/// A face mentioned twice, or two faces over one operand.
+fn face_twice(drawing: &mut Drawing) -> usize {
+    let (centre, radius) = (drawing.centre(), drawing.size());
+    let face = drawing.maker.round(&centre, radius);
+    let again = if drawing.random.once_in(2) {
+        face
+    } else {
+        let same = drawing.maker.records[face].clone();
+        drawing.maker.records.push(same);
+        drawing.maker.records.len() - 1
+    };
+    if drawing.random.once_in(2) {
+        return drawing.maker.add(Both(face, again));
+    }
+    drawing.maker.add(Either(face, again))
+}
+
+fn twice_complement(drawing: &mut Drawing) -> usize {
+    let room = if drawing.random.once_in(2) {
+        sphere(drawing)
+    } else {
+        boxed(drawing)
+    };
+    let around = drawing.maker.add(Complement(room));
+    drawing.maker.add(Complement(around))
+}

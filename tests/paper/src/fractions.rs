@@ -1,0 +1,133 @@
+//! "Fractions": what a sheet means at a point.
+
+use crate::root::Cube;
+use crate::sheet::{Record::*, Sheet};
+use crate::whole::Whole;
+
+/// Three whole numerators over one positive whole denominator.
+#[derive(Clone, Copy, Debug, PartialEq, Eq)]
+pub struct Point {
+    pub numerators: [i64; 3],
+    pub denominator: i64,
+}
+
+/// A whole numerator over a power of the point's denominator.
+#[derive(Clone, Debug)]
+struct Fraction {
+    numerator: Whole,
+    power: u32,
+}
+
+/// What a record is at a point.
+#[derive(Clone, Debug)]
+enum Value {
+    Number(Fraction),
+    Holds(bool),
+}
+
+/// What all records are at a point.
+pub struct Values(Vec<Value>);
+
+impl Point {
+    pub fn whole(coordinates: [i32; 3]) -> Point {
+        Point {
+            numerators: coordinates.map(i64::from),
+            denominator: 1,
+        }
+    }
+
+    /// Whether it is in the closed cube.
+    pub fn is_in_closed(&self, cube: &Cube) -> bool {
+        let n = i128::from(self.denominator);
+        (0..3).all(|axis| {
+            let at = i128::from(self.numerators[axis]);
+            i128::from(cube.low[axis]) * n <= at && at <= i128::from(cube.high(axis)) * n
+        })
+    }
+
+    /// A whole point's coordinates are over the power 0, so that their powers stay 0.
+    fn coordinate(&self, axis: usize) -> Fraction {
+        Fraction {
+            numerator: Whole::from(self.numerators[axis]),
+            power: u32::from(self.denominator != 1),
+        }
+    }
+
+    fn sum(&self, a: &Fraction, b: &Fraction) -> Fraction {
+        let power = a.power.max(b.power);
+        Fraction {
+            numerator: self.over(a, power).plus(&self.over(b, power)),
+            power,
+        }
+    }
+
+    /// The numerator of the same fraction over a greater power.
+    fn over(&self, a: &Fraction, power: u32) -> Whole {
+        let n = Whole::from(self.denominator);
+        (a.power..power).fold(a.numerator.clone(), |numerator, _| numerator.times(&n))
+    }
+}
+
+fn product(a: &Fraction, b: &Fraction) -> Fraction {
+    Fraction {
+        numerator: a.numerator.times(&b.numerator),
+        power: a.power + b.power,
+    }
+}
+
+fn negative(a: &Fraction) -> Fraction {
+    Fraction {
+        numerator: a.numerator.negative(),
+        power: a.power,
+    }
+}
+
+impl Values {
+    /// Works out all records of a sheet.
+    pub fn at(sheet: &Sheet, point: &Point) -> Values {
+        let mut values = Values(Vec::new());
+        for record in &sheet.records {
+            let number = |a: usize| values.number(a);
+            let holds = |p: usize| values.holds(p);
+            let value = match *record {
+                Constant(c) => Value::Number(Fraction {
+                    numerator: Whole::from(i64::from(c)),
+                    power: 0,
+                }),
+                X => Value::Number(point.coordinate(0)),
+                Y => Value::Number(point.coordinate(1)),
+                Z => Value::Number(point.coordinate(2)),
+                Sum(a, b) => Value::Number(point.sum(number(a), number(b))),
+                Difference(a, b) => Value::Number(point.sum(number(a), &negative(number(b)))),
+                Product(a, b) => Value::Number(product(number(a), number(b))),
+                Square(a) => Value::Number(product(number(a), number(a))),
+                Face(a) => Value::Holds(!number(a).numerator.is_positive()),
+                Both(p, q) => Value::Holds(holds(p) && holds(q)),
+                Either(p, q) => Value::Holds(holds(p) || holds(q)),
+                Complement(p) => Value::Holds(!holds(p)),
+            };
+            values.0.push(value);
+        }
+        values
+    }
+
+    fn number(&self, a: usize) -> &Fraction {
+        match &self.0[a] {
+            Value::Number(fraction) => fraction,
+            Value::Holds(_) => panic!("record {a} is logical"),
+        }
+    }
+
+    /// Whether the point satisfies a logical record.
+    pub fn holds(&self, p: usize) -> bool {
+        match self.0[p] {
+            Value::Holds(holds) => holds,
+            Value::Number(_) => panic!("record {p} is arithmetic"),
+        }
+    }
+
+    /// Whether the point is inside the solid.
+    pub fn is_inside(&self) -> bool {
+        self.holds(self.0.len() - 1)
+    }
+}

@@ -1,0 +1,36 @@
+//! Document 01 in plain Rust, written from the document alone: what the proved library is compared with.
+//!
+//! There is a module for each of its sections, in its words and its order, and each rule stands in one
+//! place. Clarity comes first. Whole numbers are exact: 128 bits where the paper's limits keep them
+//! small, and of any size where they do not.
+
+pub mod bounds;
+pub mod build;
+pub mod colour;
+pub mod fractions;
+pub mod lookup;
+pub mod map;
+pub mod root;
+pub mod sheet;
+pub mod whole;
+
+#[cfg(test)]
+mod rows;
+
+/// What a call answers: a code of the table "Replies, in order of test", and the number returned.
+#[derive(Clone, Copy, Debug, PartialEq, Eq)]
+pub struct Reply {
+    pub code: u32,
+    pub number: u64,
+}
+
+/// A reply whose code is not 0.
+pub type Refusal = Reply;
+
+/// The reply of a code with a number.
+pub fn reply(code: u32, number: usize) -> Reply {
+    Reply {
+        code,
+        number: number as u64,
+    }
+}

@@ -1,0 +1,224 @@
+//! The rows of "Both sides of each line", the step room, and the examples of how sentences are read.
+
+use crate::bounds::{interval, over};
+use crate::build::{build, map_of};
+use crate::colour::{self, State};
+use crate::lookup::{lookup, INSIDE, OUTSIDE, UNDECIDED};
+use crate::root::{Cube, Root};
+use crate::sheet::{self, Record::*, Sheet};
+use crate::{reply, Reply};
+
+/// Bytes written in hex.
+fn hex(text: &str) -> Vec<u8> {
+    let digits: Vec<u8> = text.bytes().filter(|c| !c.is_ascii_whitespace()).collect();
+    let byte = |two: &[u8]| u8::from_str_radix(std::str::from_utf8(two).unwrap(), 16).unwrap();
+    digits.chunks(2).map(byte).collect()
+}
+
+/// The step room's sheet.
+fn s() -> Vec<u8> {
+    hex("00 1D 01 01 02 01 03 05 01 00 00 00 02 03 06 00 02 03 06 01 02 02 10 03 02 10 04 03 11 05 06")
+}
+
+/// The leaves of the step room's map at d 1, of one half of it.
+const HALF: &str = "01 01 00 01 02 05 01 02 06 01 04 00";
+
+/// The step room's map at d 1.
+fn step_room() -> Vec<u8> {
+    let header = "00 00 00 27 01 00 00 00 00 00 00 00 00 00 00 00 00 02 01";
+    hex(&[header, HALF, HALF].concat())
+}
+
+fn root(x: i32, k: u8, d: u8) -> Root {
+    let low = [x, 0, 0];
+    Root { low, k, d }
+}
+
+/// The leaves of a map's bytes.
+fn leaves(map: &[u8]) -> &[u8] {
+    &map[19..]
+}
+
+fn is(given: Reply, code: u32, number: usize) {
+    assert_eq!(given, reply(code, number));
+}
+
+#[test]
+fn depth_0_is_one_gray_leaf() {
+    let map = map_of(&s(), &root(0, 2, 0)).unwrap();
+    assert_eq!(map.len(), 22);
+    assert_eq!(leaves(&map), [0, 4, 0]);
+}
+
+#[test]
+fn depth_1_is_the_step_room() {
+    assert_eq!(map_of(&s(), &root(0, 2, 1)).unwrap(), step_room());
+    let mut out = [7; 44];
+    is(build(&s(), &root(0, 2, 1), &mut out), 0, 43);
+    assert_eq!(out[..43], step_room());
+    assert_eq!(out[43], 7);
+    let mut short = [7; 42];
+    is(build(&s(), &root(0, 2, 1), &mut short), 8, 43);
+    assert_eq!(short, [7; 42]);
+}
+
+#[test]
+fn depth_2_splits_each_gray_cube() {
+    let map = map_of(&s(), &root(0, 2, 2)).unwrap();
+    let split = "02 04 00 02 00 00 02 00 00 02 00 00".repeat(2);
+    let half = format!("01 01 00 01 02 05 01 02 06 {split}");
+    assert_eq!(map.len(), 85);
+    assert_eq!(leaves(&map), hex(&half.repeat(2)));
+}
+
+#[test]
+fn lookups_in_the_step_room() {
+    let at = |x, y| lookup(&s(), &step_room(), [x, y, 0]);
+    is(at(2, 0), 0, INSIDE);
+    is(at(3, 0), 0, OUTSIDE);
+    is(at(2, 2), 0, UNDECIDED);
+    is(at(4, 0), 10, 0);
+}
+
+#[test]
+fn bounds_of_the_rows() {
+    let records = vec![X, Constant(10), Difference(1, 0), Product(0, 2)];
+    let cube = Cube {
+        low: [4, 4, 4],
+        side: 2,
+        level: 0,
+    };
+    let bounds = over(&Sheet { records }, &cube).unwrap();
+    assert_eq!(bounds[3], Some(interval(16, 36)));
+    let x = interval(-3, 2);
+    assert_eq!(x.square(), interval(0, 9));
+    assert_eq!(x.product(x), interval(-6, 9));
+    assert_eq!(interval(-3, -2).square(), interval(4, 9));
+    assert_eq!(interval(2, 3).square(), interval(4, 9));
+}
+
+#[test]
+fn states_of_the_rows() {
+    assert_eq!(colour::face(5, interval(-2, 0)), State::In);
+    assert_eq!(colour::face(5, interval(0, 2)), State::Single(5));
+    assert_eq!(colour::face(5, interval(1, 2)), State::Out);
+}
+
+#[test]
+fn a_single_face_gives_one_leaf_at_any_depth() {
+    let sheet = sheet::write(&[X, Face(0)]);
+    for d in 0..=10 {
+        let map = map_of(&sheet, &root(0, 16, d)).unwrap();
+        assert_eq!(leaves(&map), [0, 2, 1]);
+    }
+}
+
+#[test]
+fn the_limit_is_reached_and_passed() {
+    let reached = [X, Square(0), Product(1, 0), Face(2)];
+    let map = map_of(&sheet::write(&reached), &root(1048575, 0, 0)).unwrap();
+    assert_eq!(map.len(), 22);
+    let passed = [X, Square(0), Product(1, 0), Sum(2, 0), Face(3)];
+    let mut out = [7; 22];
+    is(
+        build(&sheet::write(&passed), &root(1048575, 0, 0), &mut out),
+        7,
+        3,
+    );
+    assert_eq!(out, [7; 22]);
+}
+
+#[test]
+fn sheets_that_are_refused() {
+    let refused = |text| sheet::read(&hex(text)).unwrap_err();
+    is(refused(""), 1, 0);
+    is(refused("00 00"), 1, 0);
+    is(refused("00 02 01"), 1, 0);
+    is(refused("00 01 02"), 2, 0);
+    is(refused("00 01 01"), 5, 0);
+    is(refused("00 03 01 01 02"), 5, 1);
+    is(refused("00 02 01 00"), 3, 3);
+    is(refused("00 04 01 02 02 00"), 3, 3);
+    is(refused("00 03 01 01 09"), 3, 3);
+    is(refused("00 04 01 01 02 02"), 3, 5);
+    is(refused("00 04 01 02 10 00"), 4, 0);
+    is(refused("00 07 01 01 02 02 10 01 00"), 3, 8);
+    is(refused("00 08 01 01 02 02 10 00 01 13"), 3, 8);
+    is(refused("00 08 01 01 02 02 13 00 01 02"), 4, 1);
+    // All records are framed before any operand is looked at.
+    is(refused("00 06 01 02 10 09 01 09"), 3, 6);
+}
+
+#[test]
+fn at_most_256_records() {
+    let mut records = vec![X; 255];
+    records.push(Face(0));
+    assert!(sheet::read(&sheet::write(&records)).is_ok());
+    let mut one_more = sheet::write(&records);
+    let length = one_more.len();
+    one_more.push(200);
+    one_more[..2].copy_from_slice(&(length as u16 - 1).to_be_bytes());
+    is(sheet::read(&one_more).unwrap_err(), 3, length);
+}
+
+#[test]
+fn limits_of_the_root() {
+    let refused = |x, k, d| map_of(&s(), &root(x, k, d)) == Err(reply(6, 0));
+    assert!(!refused(-1048576, 16, 0) && refused(-1048577, 16, 0));
+    assert!(!refused(983040, 16, 0) && refused(983041, 16, 0));
+    assert!(refused(i32::MAX, 0, 0) && refused(i32::MIN, 0, 0));
+    assert!(refused(0, 17, 0) && refused(0, 255, 0));
+    assert!(refused(0, 2, 3) && refused(0, 16, 11) && refused(0, 16, 255));
+}
+
+/// The step room's map with other bytes from an offset on, and its length told by its first bytes.
+fn changed(at: usize, bytes: &str) -> Vec<u8> {
+    let mut map = step_room();
+    map.truncate(at);
+    map.extend(hex(bytes));
+    let length = map.len() as u32 - 4;
+    map[..4].copy_from_slice(&length.to_be_bytes());
+    map
+}
+
+#[test]
+fn maps_that_are_refused() {
+    let refused = |map: &[u8], offset| is(lookup(&s(), map, [0, 0, 0]), 9, offset);
+    refused(&[], 0);
+    refused(&step_room()[..42], 0);
+    refused(&[step_room(), vec![0]].concat(), 0);
+    refused(&changed(41, ""), 0);
+    refused(&changed(4, &format!("02 {}", "00 ".repeat(14))), 4);
+    refused(&changed(17, "11 01"), 5);
+    refused(&changed(17, "02 03"), 5);
+    // No leaves: they stop short.
+    refused(&changed(19, ""), 19);
+    refused(&changed(40, ""), 40);
+    refused(&changed(40, "01 04 00 01 04 00"), 43);
+    refused(&changed(19, "00 04 00"), 19);
+    refused(&changed(22, "02 04 00"), 22);
+    refused(&changed(22, "00 01 00"), 22);
+    refused(&changed(22, "01 05 00"), 22);
+    refused(&changed(22, "01 01 05"), 22);
+    // A terminal leaf that names no face comes in order of offset with other bad leaves.
+    refused(&changed(22, "01 02 07 01 09 00"), 22);
+}
+
+#[test]
+fn a_complement_turns_the_answer_over() {
+    let sheet = sheet::write(&[X, Face(0), Complement(1)]);
+    let map = map_of(&sheet, &root(-4, 3, 3)).unwrap();
+    assert_eq!(leaves(&map), [0, 3, 1]);
+    is(lookup(&sheet, &map, [0, 1, 1]), 0, OUTSIDE);
+    is(lookup(&sheet, &map, [1, 1, 1]), 0, INSIDE);
+}
+
+#[test]
+fn lookup_refuses_by_9_before_7_before_10() {
+    let sheet = sheet::write(&[Constant(i32::MIN), Square(0), Face(1)]);
+    let far = [i32::MAX; 3];
+    let good = map_of(&s(), &root(0, 2, 0)).unwrap();
+    is(lookup(&sheet, &good[..21], far), 9, 0);
+    is(lookup(&sheet, &good, far), 7, 1);
+    is(lookup(&s(), &good, far), 10, 0);
+}

@@ -13,14 +13,14 @@ pub struct Made {
     pub case: Case,
 }
 
-/// Once in so many builds the map is one of the largest.
-const LARGEST_ONCE_IN: u64 = 10_000;
-const LARGEST_LEAVES: usize = 1_500_000;
+/// Once in so many builds the map is one of the largest, of several megabytes.
+const LARGEST_ONCE_IN: u64 = 20_000;
+const LARGEST_LEAVES: usize = 2_200_000;
 
 /// The build of a number.
 pub fn any(number: u64, random: &mut Random) -> Made {
-    if number % LARGEST_ONCE_IN == LARGEST_ONCE_IN / 2 {
-        let mut plan = rooms::largest(random);
+    if number.is_multiple_of(LARGEST_ONCE_IN) {
+        let mut plan = rooms::largest(number / LARGEST_ONCE_IN, random);
         let (d, leaves) = plan::deepest(&plan.sheet(), &plan.root, 10, LARGEST_LEAVES);
         plan.root.d = d;
         return lent(plan.label, plan.bytes(), &plan, leaves, random);
@@ -50,10 +50,11 @@ pub fn sound(random: &mut Random) -> Plan {
 
 /// Small maps mostly, so that there can be many.
 pub fn most_leaves(random: &mut Random) -> usize {
-    match random.below(200) {
-        0 => 20_000,
-        1..=15 => 2_000,
-        _ => 250,
+    match random.below(400) {
+        0 => 8_000,
+        1..=15 => 1_500,
+        16..=100 => 300,
+        _ => 120,
     }
 }
 

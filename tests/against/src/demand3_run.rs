@@ -1,15 +1,17 @@
 //! Runs of demand 3, and of maps that break it, which have to be noticed.
 
 use crate::demand3::{self, built, points_of, touching, wrong_leaf, Built, Counts};
-use crate::group::Setup;
+use crate::group::{on_two_threads, Setup};
 use crate::plan::Plan;
 use crate::random::Random;
 use crate::server::Server;
 use crate::slips;
 use paper::build::{map_by, Colouring};
+use paper::fractions::Point;
 use paper::map::{self, Leaf};
 use paper::root::{Cube, Root};
 use paper::sheet::{Record::*, Sheet};
+use std::sync::atomic::{AtomicU64, Ordering};
 
 /// How many leaves of a map points are taken of.
 const LEAVES_TRIED: usize = 8;
@@ -37,15 +39,9 @@ pub struct Found {
 
 /// Holds so many sheets, each with two maps, to the demand, on two servers.
 pub fn run(setup: &Setup, sheets: u64) -> Result<Found, String> {
-    let parts: Vec<Result<Found, String>> = std::thread::scope(|scope| {
-        let start = |first| scope.spawn(move || part(setup, first, sheets));
-        let threads = [0, 1].map(start);
-        threads
-            .map(|thread| thread.join().unwrap_or(Err("a thread failed".into())))
-            .into()
-    });
+    let next = AtomicU64::new(0);
     let mut all = Found::default();
-    for part in parts {
+    for part in on_two_threads(|| part(setup, &next, sheets)) {
         let part = part?;
         all.counts.add(&part.counts);
         all.point = all.point.or(part.point);
@@ -54,14 +50,17 @@ pub fn run(setup: &Setup, sheets: u64) -> Result<Found, String> {
     Ok(all)
 }
 
-fn part(setup: &Setup, first: u64, sheets: u64) -> Result<Found, String> {
+fn part(setup: &Setup, next: &AtomicU64, sheets: u64) -> Result<Found, String> {
     let mut server = Server::named(&setup.library)?;
     let mut found = Found::default();
-    for number in (first..sheets).step_by(2) {
+    loop {
+        let number = next.fetch_add(1, Ordering::Relaxed);
+        if number >= sheets {
+            return Ok(found);
+        }
         let mut random = Random::of_case(setup.seed, "demand 3", number);
         one_sheet(number, &mut random, &mut server, &mut found)?;
     }
-    Ok(found)
 }
 
 /// A sheet with two maps over roots that overlap, lie side by side or are of other sizes.
@@ -115,8 +114,6 @@ fn points_of_map(map: &Built, random: &mut Random) -> Vec<Point> {
     }
     points
 }
-
-use paper::fractions::Point;
 
 /// Turns one leaf of each of so many maps over: white to black, black to white, a face to its complement.
 /// Answers how many were turned, and how many of them points noticed.

@@ -7,6 +7,7 @@ use crate::random::Random;
 use crate::server::Server;
 use crate::shrink;
 use crate::tally::Tally;
+use std::sync::atomic::{AtomicU64, Ordering};
 
 /// Makes the case of a number; the randomness is that case's own.
 pub type Make = fn(u64, &mut Random) -> Made;
@@ -24,7 +25,15 @@ pub struct Setup {
     pub library: String,
 }
 
-const THREADS: u64 = 2;
+/// Does the same on two threads at once: as many as the smallest machine has cores for.
+pub fn on_two_threads<T: Send>(
+    work: impl Fn() -> Result<T, String> + Sync,
+) -> [Result<T, String>; 2] {
+    std::thread::scope(|scope| {
+        let threads = [scope.spawn(&work), scope.spawn(&work)];
+        threads.map(|thread| thread.join().unwrap_or(Err("a thread failed".into())))
+    })
+}
 
 /// A case that the library answers otherwise than the oracle says.
 pub struct Difference {
@@ -56,23 +65,17 @@ impl Group {
         Ok((tally, difference.is_none()))
     }
 
-    /// Compares the library with an oracle, up to the first difference of each thread. Answers the first.
+    /// Compares the library with an oracle, up to a difference.
     pub fn compare(
         &self,
         setup: &Setup,
         oracle: &Oracle,
     ) -> Result<(Tally, Option<Difference>), String> {
-        let parts: Result<Vec<_>, String> = std::thread::scope(|scope| {
-            let start = |first| scope.spawn(move || self.part(setup, oracle, first));
-            let threads: Vec<_> = (0..THREADS).map(start).collect();
-            let ended = threads.into_iter().map(|thread| thread.join());
-            ended
-                .map(|part| part.unwrap_or(Err("a thread failed".into())))
-                .collect()
-        });
+        let next = AtomicU64::new(0);
         let mut all = Tally::default();
         let mut differences = Vec::new();
-        for (tally, difference) in parts? {
+        for part in on_two_threads(|| self.part(setup, oracle, &next)) {
+            let (tally, difference) = part?;
             all.add(&tally);
             differences.extend(difference);
         }
@@ -80,25 +83,29 @@ impl Group {
         Ok((all, first))
     }
 
-    /// Every second case, on a server of its own.
+    /// The next case whenever one is done, on a server of its own, until there is none or a difference.
     fn part(
         &self,
         setup: &Setup,
         oracle: &Oracle,
-        first: u64,
+        next: &AtomicU64,
     ) -> Result<(Tally, Option<Difference>), String> {
         let mut server = Server::named(&setup.library)?;
         let mut tally = Tally::default();
-        for number in (first..self.cases).step_by(THREADS as usize) {
+        loop {
+            let number = next.fetch_add(1, Ordering::Relaxed);
+            if number >= self.cases {
+                return Ok((tally, None));
+            }
             let made = self.case(setup.seed, number);
             let expected = oracle(&made.case);
             tally.count(&made, &expected);
             if server.ask(&made.case) != Ok(expected) {
+                next.store(self.cases, Ordering::Relaxed);
                 let case = made.case;
                 return Ok((tally, Some(Difference { number, case })));
             }
         }
-        Ok((tally, None))
     }
 }
 

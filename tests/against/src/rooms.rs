@@ -37,16 +37,33 @@ pub fn room(random: &mut Random) -> Plan {
     drawn(random, root, label, shape)
 }
 
-/// A solid that is gray all over a sphere: with a deep root it has the largest maps.
-pub fn largest(random: &mut Random) -> Plan {
+/// The largest maps, by turns: of a solid that is gray all over a half of the root, and of one that is gray
+/// all over a sphere.
+pub fn largest(turn: u64, random: &mut Random) -> Plan {
     let root = plan::root(random, 12);
-    let label = "room: of the largest maps";
-    drawn(random, root, label, |drawing| {
-        let centre = [0, 1, 2].map(|axis| i64::from(drawing.root.low[axis]) + 2048);
-        let radius = drawing.random.between(1500, 1900);
-        let face = drawing.maker.round(&centre, radius);
-        drawing.maker.add(Both(face, face))
-    })
+    let shape: Shape = if turn.is_multiple_of(2) {
+        gray_half
+    } else {
+        gray_sphere
+    };
+    drawn(random, root, "room: of the largest maps", shape)
+}
+
+/// The bounds of x - x hold 0 in every cube, and a face joined with itself is gray.
+fn gray_half(drawing: &mut Drawing) -> usize {
+    let middle = i64::from(drawing.root.low[0]) + (1 << drawing.root.k) / 2;
+    let (x, middle) = (drawing.maker.axis(0), drawing.maker.constant(middle));
+    let half = drawing.maker.at_most(x, middle);
+    let vague = drawing.maker.at_most(x, x);
+    let gray = drawing.maker.add(Either(vague, vague));
+    drawing.maker.add(Both(gray, half))
+}
+
+fn gray_sphere(drawing: &mut Drawing) -> usize {
+    let half = (1 << drawing.root.k) / 2;
+    let centre = drawing.root.low.map(|low| i64::from(low) + half);
+    let face = drawing.maker.round(&centre, half - half / 8);
+    drawing.maker.add(Both(face, face))
 }
 
 fn drawn(random: &mut Random, root: Root, label: &'static str, shape: Shape) -> Plan {

@@ -28,7 +28,8 @@ type Wrong = fn(&Case) -> Outcome;
 const CASES: u64 = 6_000;
 
 pub fn slips() -> Vec<Slip> {
-    let building: Make = builds::any;
+    // The build of number 0 has one of the largest maps, which no wrong rule needs.
+    let building: Make = |number, random| builds::any(number + 1, random);
     let looking: Make = lookups::any;
     let damaged: Make = every_byte::damaged_sheet;
     let all: [(&str, Make, Wrong); 17] = [

@@ -15,6 +15,8 @@
 
 #define LARGEST ((size_t)1 << 26)
 #define MOST_POINTS 4096
+/* A request that takes longer stops the server: every input gets an answer. The largest takes a minute under the emulator. */
+#define MOST_SECONDS 300
 /* No page of these machines is larger. */
 #define PAGE ((size_t)65536)
 
@@ -25,6 +27,7 @@ long read(int file, void *to, size_t length);
 long write(int file, const void *from, size_t length);
 void *memcpy(void *to, const void *from, size_t length);
 int memcmp(const void *a, const void *b, size_t length);
+unsigned alarm(unsigned seconds);
 void _exit(int status);
 
 enum { NOTHING = 0, READING = 1, READING_AND_WRITING = 3, PRIVATE_ANONYMOUS_NORESERVE = 0x4022 };
@@ -204,6 +207,7 @@ int main(void) {
     make_room(&map_room);
     make_room(&out_room);
     while (get(&call, 1)) {
+        alarm(MOST_SECONDS);
         if (call == 'b')
             build();
         else if (call == 'l')
@@ -212,6 +216,7 @@ int main(void) {
             trespass();
         else
             return 2;
+        alarm(0);
     }
     return 0;
 }

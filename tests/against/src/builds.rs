@@ -6,6 +6,7 @@ use crate::plan::{self, Plan};
 use crate::random::Random;
 use crate::{graphs, limits, rooms};
 use paper::map::{HEADER, LEAF};
+use paper::root::Root;
 
 /// A case, and what it is an example of.
 pub struct Made {
@@ -20,10 +21,9 @@ const LARGEST_LEAVES: usize = 2_200_000;
 /// The build of a number.
 pub fn any(number: u64, random: &mut Random) -> Made {
     if number.is_multiple_of(LARGEST_ONCE_IN) {
-        let mut plan = rooms::largest(number / LARGEST_ONCE_IN, random);
-        let (d, leaves) = plan::deepest(&plan.sheet(), &plan.root, 10, LARGEST_LEAVES);
-        plan.root.d = d;
-        return lent(plan.label, plan.bytes(), &plan, leaves, random);
+        let (plan, leaves) = largest(number / LARGEST_ONCE_IN, random);
+        let enough = ("buffer: just long enough", length(leaves));
+        return lent(plan.label, plan.bytes(), &plan.root, enough, random);
     }
     if random.once_in(8) {
         return damaged(random);
@@ -34,7 +34,20 @@ pub fn any(number: u64, random: &mut Random) -> Made {
         let most = most_leaves(random);
         leaves = plan.choose_depth(random, most);
     }
-    lent(plan.label, plan.bytes(), &plan, leaves, random)
+    let buffer = buffer(length(leaves), random);
+    lent(plan.label, plan.bytes(), &plan.root, buffer, random)
+}
+
+/// One of the largest maps, by turns of two sorts, and how many leaves it has.
+pub fn largest(turn: u64, random: &mut Random) -> (Plan, usize) {
+    let mut plan = rooms::largest(turn, random);
+    let (d, leaves) = plan::deepest(&plan.sheet(), &plan.root, 10, LARGEST_LEAVES);
+    plan.root.d = d;
+    (plan, leaves)
+}
+
+fn length(leaves: usize) -> usize {
+    HEADER + LEAF * leaves
 }
 
 /// A sheet that replies 1 to 5 do not refuse.
@@ -60,33 +73,37 @@ pub fn most_leaves(random: &mut Random) -> usize {
 
 fn damaged(random: &mut Random) -> Made {
     let mut plan = sound(random);
-    let (label, bytes) = damage_sheets::damaged(&plan.records, random);
+    let (label, sheet) = damage_sheets::damaged(&plan.records, random);
     plan.root.d = plan.root.k.min(10);
-    plan.root = plan::shallow(&bytes, &plan.root, 250);
-    lent(label, bytes, &plan, random.below(250), random)
+    let root = plan::shallow(&sheet, &plan.root, 250);
+    let some = length(random.below(250));
+    let buffer = buffer(some, random);
+    lent(label, sheet, &root, buffer, random)
 }
 
-/// With a buffer that is just long enough, a byte short, empty, short or longer.
-fn lent(
-    label: &'static str,
-    sheet: Vec<u8>,
-    plan: &Plan,
-    leaves: usize,
-    random: &mut Random,
-) -> Made {
-    let needed = HEADER + LEAF * leaves;
-    let (buffer, out_len) = match random.below(8) {
+/// The length of a buffer where so many bytes are needed, and how the two compare.
+fn buffer(needed: usize, random: &mut Random) -> (&'static str, usize) {
+    match random.below(8) {
         0..=2 => ("buffer: just long enough", needed),
         3 => ("buffer: a byte short", needed - 1),
         4 => ("buffer: empty", 0),
         5 => ("buffer: short", random.below(needed)),
         6 => ("buffer: a byte longer", needed + 1),
         _ => ("buffer: longer", needed + random.below(5000)),
-    };
+    }
+}
+
+fn lent(
+    label: &'static str,
+    sheet: Vec<u8>,
+    root: &Root,
+    (buffer, out_len): (&'static str, usize),
+    random: &mut Random,
+) -> Made {
     let build = Build {
         placing: random.below(PLACINGS) as u8,
         sheet,
-        root: plan.root,
+        root: *root,
         out_len,
         out_seed: random.word() | 1,
     };

@@ -17,11 +17,22 @@ pub struct Sizes {
     pub lookups: u64,
 }
 
-/// Damaged sheets and maps beside those of each byte.
-const DAMAGED: u64 = 4_000;
-/// Sheets held to demand 3, and maps with a leaf turned over.
-const SHEETS: u64 = 400;
-const TURNED_OVER: u64 = 100;
+impl Sizes {
+    /// Damaged sheets, and as many maps, beside those of each byte.
+    fn damaged(&self) -> u64 {
+        self.builds / 5
+    }
+
+    /// Sheets held to demand 3.
+    fn sheets(&self) -> u64 {
+        self.builds / 50
+    }
+
+    /// Maps with a leaf turned over.
+    fn turned_over(&self) -> u64 {
+        self.builds / 200
+    }
+}
 
 fn groups(sizes: &Sizes) -> [Group; 4] {
     [
@@ -38,12 +49,12 @@ fn groups(sizes: &Sizes) -> [Group; 4] {
         Group {
             name: "damaged sheets",
             make: every_byte::sheets,
-            cases: every_byte::sheet_cases() + DAMAGED,
+            cases: every_byte::sheet_cases() + sizes.damaged(),
         },
         Group {
             name: "damaged maps",
             make: every_byte::maps,
-            cases: every_byte::map_cases() + DAMAGED,
+            cases: every_byte::map_cases() + sizes.damaged(),
         },
     ]
 }
@@ -89,8 +100,8 @@ pub fn all(setup: &Setup, sizes: &Sizes) -> Result<bool, String> {
     covered.print_outcomes();
     codes_reached(&covered, &mut score);
     wrong_rules(setup, &mut score)?;
-    demand_3(setup, &mut score)?;
-    wrong_maps(setup, &mut score)?;
+    demand_3(setup, sizes, &mut score)?;
+    wrong_maps(setup, sizes, &mut score)?;
     println!("{} passed, {} failed", score.passed, score.failed);
     Ok(score.failed == 0)
 }
@@ -148,17 +159,23 @@ fn wrong_rules(setup: &Setup, score: &mut Score) -> Result<(), String> {
     Ok(())
 }
 
-fn demand_3(setup: &Setup, score: &mut Score) -> Result<(), String> {
+fn demand_3(setup: &Setup, sizes: &Sizes, score: &mut Score) -> Result<(), String> {
     let Found {
         counts,
         point,
         touch,
-    } = demand3_run::run(setup, SHEETS)?;
+    } = demand3_run::run(setup, sizes.sheets())?;
     for told in point.iter().chain(&touch) {
         println!("DEMAND 3: {told}");
     }
     let [white, black, terminal, complement, gray] = counts.by_class;
     println!("    {} maps with {} leaves", counts.maps, counts.leaves);
+    let [overlapping, adjacent, apart] = counts.roots;
+    println!(
+        "    two roots of a sheet: {overlapping} overlapping, {adjacent} side by side, {apart} apart; \
+         {} not aligned",
+        counts.not_aligned
+    );
     println!(
         "    points in closed leaves: {white} white, {black} black, {terminal} terminal, \
          {complement} terminal by complement, {gray} gray"
@@ -174,8 +191,8 @@ fn demand_3(setup: &Setup, score: &mut Score) -> Result<(), String> {
 }
 
 /// Maps that break demand 3 are noticed by the checks that found none.
-fn wrong_maps(setup: &Setup, score: &mut Score) -> Result<(), String> {
-    let (turned, noticed) = demand3_run::turned_over(setup, TURNED_OVER)?;
+fn wrong_maps(setup: &Setup, sizes: &Sizes, score: &mut Score) -> Result<(), String> {
+    let (turned, noticed) = demand3_run::turned_over(setup, sizes.turned_over())?;
     let strip = demand3_run::strip_is_noticed()?;
     let touch = demand3_run::touch_is_noticed()?;
     println!("    the strip between corners: {strip}; [0, 2] called Out touches: {touch}");

@@ -29,6 +29,10 @@ pub struct Counts {
     /// A white and a black leaf, of one map and of two.
     pub pairs: u64,
     pub pairs_of_two_maps: u64,
+    /// Two roots of a sheet: overlapping, side by side, apart.
+    pub roots: [u64; 3],
+    /// Two roots of which neither is a cube of the grid that the other lies in.
+    pub not_aligned: u64,
 }
 
 /// Points with high powers would need numbers of many thousands of digits.
@@ -106,6 +110,20 @@ pub fn other_root(root: &Root, random: &mut Random) -> Root {
             return other;
         }
     }
+}
+
+/// Counts how two roots lie to each other.
+pub fn count_roots(a: &Cube, b: &Cube, counts: &mut Counts) {
+    let overlaps = (0..3).all(|axis| a.low[axis] < b.high(axis) && b.low[axis] < a.high(axis));
+    let how = match (overlaps, a.touches(b)) {
+        (true, _) => 0,
+        (false, true) => 1,
+        (false, false) => 2,
+    };
+    counts.roots[how] += 1;
+    let grid = a.side.min(b.side);
+    let aligned = (0..3).all(|axis| (a.low[axis] - b.low[axis]) % grid == 0);
+    counts.not_aligned += u64::from(!aligned);
 }
 
 /// Whether the demand holds of a point in a closed leaf: white outside, black inside, terminal as its face.

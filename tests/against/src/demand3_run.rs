@@ -5,7 +5,8 @@ use crate::group::{on_two_threads, Setup};
 use crate::plan::Plan;
 use crate::random::Random;
 use crate::server::Server;
-use crate::slips;
+use crate::tally::add_each;
+use crate::wrong_builds;
 use paper::build::{map_by, Colouring};
 use paper::fractions::Point;
 use paper::map::{self, Leaf};
@@ -23,9 +24,9 @@ impl Counts {
         self.points += other.points;
         self.pairs += other.pairs;
         self.pairs_of_two_maps += other.pairs_of_two_maps;
-        for (total, count) in self.by_class.iter_mut().zip(other.by_class) {
-            *total += count;
-        }
+        self.not_aligned += other.not_aligned;
+        add_each(&mut self.roots, &other.roots);
+        add_each(&mut self.by_class, &other.by_class);
     }
 }
 
@@ -89,6 +90,9 @@ fn one_sheet(
         let wrong = wrong_leaf(&sheet, &map.leaves, &points, &mut found.counts);
         let told = wrong.map(|wrong| format!("sheet {number}: {wrong:?}"));
         found.point = found.point.take().or(told);
+    }
+    if let [one, two] = &maps[..] {
+        demand3::count_roots(&one.root.cube(), &two.root.cube(), &mut found.counts);
     }
     for (a, some) in maps.iter().enumerate() {
         for (b, others) in maps.iter().enumerate() {
@@ -156,7 +160,7 @@ pub fn strip_is_noticed() -> Result<bool, String> {
     let solid = strip.between(0, 1, 2);
     let records = strip.with_solid(solid);
     let sheet = Sheet { records };
-    let leaves = wrong_map(&slips::corners, &sheet, 0)?;
+    let leaves = wrong_map(&wrong_builds::corners, &sheet, 0)?;
     let point = Point {
         numerators: [3, 1, 1],
         denominator: 2,
@@ -167,6 +171,6 @@ pub fn strip_is_noticed() -> Result<bool, String> {
 /// With [0, 2] called Out, white at x from 2 to 4 touches black at x from 0 to 2.
 pub fn touch_is_noticed() -> Result<bool, String> {
     let records = vec![X, Constant(2), Difference(0, 1), Face(2), Both(3, 3)];
-    let leaves = wrong_map(&slips::zero_out, &Sheet { records }, 1)?;
+    let leaves = wrong_map(&wrong_builds::zero_out, &Sheet { records }, 1)?;
     Ok(touching(&leaves, &leaves, &mut 0).is_some())
 }

@@ -1,4 +1,4 @@
-//! Each byte of some sheets and some maps, changed to other values.
+//! Each byte of some sheets and some maps, changed to other values, and each point about these maps.
 
 use crate::builds::Made;
 use crate::case::{Build, Case, Lookup, PLACINGS};
@@ -74,12 +74,21 @@ impl Small {
 
     fn lookup(&self, sheet: Vec<u8>, map: Vec<u8>, random: &mut Random) -> Case {
         let point = maps::point(&self.root, random);
-        Case::Lookup(Lookup {
-            placing: random.below(PLACINGS) as u8,
-            sheet,
-            map,
-            points: vec![point],
-        })
+        looked_up(sheet, map, vec![point], random)
+    }
+
+    /// Each whole point of the root, of its high planes and of one layer more on every side, with the ends
+    /// of 32 bits.
+    fn points(&self) -> Vec<[i32; 3]> {
+        let along = |axis: usize| {
+            let low = self.root.low[axis];
+            let near = low - 1..=low + (1 << self.root.k) + 1;
+            near.chain([i32::MIN, i32::MAX])
+        };
+        let columns = along(0).flat_map(|x| along(1).map(move |y| (x, y)));
+        columns
+            .flat_map(|(x, y)| along(2).map(move |z| [x, y, z]))
+            .collect()
     }
 
     fn build(&self, sheet: Vec<u8>, random: &mut Random) -> Case {
@@ -91,6 +100,23 @@ impl Small {
             out_seed: random.word() | 1,
         })
     }
+}
+
+fn looked_up(sheet: Vec<u8>, map: Vec<u8>, points: Vec<[i32; 3]>, random: &mut Random) -> Case {
+    Case::Lookup(Lookup {
+        placing: random.below(PLACINGS) as u8,
+        sheet,
+        map,
+        points,
+    })
+}
+
+/// Each point about the small map of a number, if there is one.
+pub fn points(number: u64, random: &mut Random) -> Option<Made> {
+    let small = small().into_iter().nth(number as usize)?;
+    let labels = vec!["each point about a map"];
+    let case = looked_up(small.sheet.clone(), small.map(), small.points(), random);
+    Some(Made { labels, case })
 }
 
 /// Changes the byte of a number to the value of a number, never to what it was.

@@ -4,12 +4,15 @@ use crate::builds::{self, Made};
 use crate::case::{Case, Lookup, PLACINGS};
 use crate::plan::Plan;
 use crate::random::Random;
-use crate::{damage_maps, damage_sheets, limits, maps};
+use crate::{damage_maps, damage_sheets, every_byte, limits, maps};
 use paper::build::map_of;
 use paper::root::Root;
 
 /// How many points are looked up in a map.
 pub const POINTS: usize = 4;
+
+/// Once in so many maps it is one of the largest.
+const LARGEST_ONCE_IN: u64 = 5_000;
 
 /// A sheet, a map and the root that the points lie about.
 struct Setting {
@@ -19,9 +22,13 @@ struct Setting {
     root: Root,
 }
 
-/// The lookups of a number.
-pub fn any(_: u64, random: &mut Random) -> Made {
+/// The lookups of a number: first each point about some small maps.
+pub fn any(number: u64, random: &mut Random) -> Made {
+    if let Some(made) = every_byte::points(number, random) {
+        return made;
+    }
     let setting = match random.below(20) {
+        _ if number % LARGEST_ONCE_IN == LARGEST_ONCE_IN / 2 => largest(number, random),
         0..=9 => own(random),
         10..=12 => of_other_sheet(random),
         13..=15 => unbuilt(random),
@@ -67,6 +74,17 @@ fn own(random: &mut Random) -> Setting {
         label,
         sheet: plan.bytes(),
         map,
+        root: plan.root,
+    }
+}
+
+fn largest(number: u64, random: &mut Random) -> Setting {
+    let (plan, _) = builds::largest(number / LARGEST_ONCE_IN, random);
+    let sheet = plan.bytes();
+    Setting {
+        label: "its own map: one of the largest",
+        map: map_of(&sheet, &plan.root).expect("it is built"),
+        sheet,
         root: plan.root,
     }
 }

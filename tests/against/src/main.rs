@@ -26,54 +26,58 @@ mod server;
 mod shrink;
 mod slips;
 mod tally;
+mod wrong_builds;
+mod wrong_lookups;
 
 use checks::Sizes;
 use group::Setup;
 use std::process::ExitCode;
 
-/// The words of the command line, taken two by two.
-struct Words(Vec<String>);
-
-impl Words {
-    /// What follows a word, if the word is there.
-    fn after(&self, word: &str) -> Option<&str> {
-        let at = self.0.iter().position(|other| other == word)?;
-        self.0.get(at + 1).map(String::as_str)
+/// What the command line sets, by words two by two.
+fn settings(words: &[&str]) -> Result<(Setup, Sizes), String> {
+    let mut setup = Setup {
+        seed: 1,
+        library: "shipped".into(),
+    };
+    let mut sizes = Sizes {
+        builds: 20_000,
+        lookups: 20_000,
+    };
+    let number = |text: &str| text.parse().map_err(|_| format!("{text}: no number"));
+    for two in words.chunks(2) {
+        match *two {
+            ["builds", count] => sizes.builds = number(count)?,
+            ["lookups", count] => sizes.lookups = number(count)?,
+            ["seed", seed] => setup.seed = number(seed)?,
+            ["library", name] => setup.library = name.into(),
+            _ => return Err(format!("not known: {}", two.join(" "))),
+        }
     }
+    Ok((setup, sizes))
+}
 
-    fn number(&self, word: &str, without: u64) -> Result<u64, String> {
-        match self.after(word) {
-            None => Ok(without),
-            Some(text) => text
-                .parse()
-                .map_err(|_| format!("{word} {text}: no number")),
+fn run(words: &[&str]) -> Result<bool, String> {
+    match *words {
+        ["replay", text, ref rest @ ..] => {
+            let bytes = case::of_hex(text).ok_or("replay: no hex")?;
+            let case = case::Case::of_request(&bytes).ok_or("replay: no case")?;
+            checks::replay(&settings(rest)?.0, &case)
+        }
+        ["case", group, number, ref rest @ ..] => {
+            let number = number.parse().map_err(|_| "case: no number")?;
+            let (setup, sizes) = settings(rest)?;
+            checks::one_case(&setup, &sizes, group, number)
+        }
+        _ => {
+            let (setup, sizes) = settings(words)?;
+            checks::all(&setup, &sizes)
         }
     }
 }
 
-fn run(words: &Words) -> Result<bool, String> {
-    let setup = Setup {
-        seed: words.number("seed", 1)?,
-        library: words.after("library").unwrap_or("shipped").into(),
-    };
-    let sizes = Sizes {
-        builds: words.number("builds", 20_000)?,
-        lookups: words.number("lookups", 20_000)?,
-    };
-    if let Some(text) = words.after("replay") {
-        let bytes = case::of_hex(text).ok_or("replay: no hex")?;
-        let case = case::Case::of_request(&bytes).ok_or("replay: no case")?;
-        return checks::replay(&setup, &case);
-    }
-    if let Some(name) = words.after("case") {
-        let number = words.number(name, 0)?;
-        return checks::one_case(&setup, &sizes, name, number);
-    }
-    checks::all(&setup, &sizes)
-}
-
 fn main() -> ExitCode {
-    let words = Words(std::env::args().skip(1).collect());
+    let words: Vec<String> = std::env::args().skip(1).collect();
+    let words: Vec<&str> = words.iter().map(String::as_str).collect();
     match run(&words) {
         Ok(true) => ExitCode::SUCCESS,
         Ok(false) => ExitCode::FAILURE,

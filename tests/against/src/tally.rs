@@ -96,7 +96,8 @@ impl Tally {
     }
 }
 
-fn add_each(to: &mut [u64], from: &[u64]) {
+/// Adds counts to counts, one by one.
+pub fn add_each(to: &mut [u64], from: &[u64]) {
     for (total, count) in to.iter_mut().zip(from) {
         *total += count;
     }

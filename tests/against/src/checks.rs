@@ -59,56 +59,65 @@ fn groups(sizes: &Sizes) -> [Group; 4] {
     ]
 }
 
-/// The count of checks so far, with the time of each.
-struct Score {
+/// A run of all checks: how many passed and failed so far, and what was covered.
+struct Run<'a> {
+    setup: &'a Setup,
+    sizes: &'a Sizes,
     passed: u32,
     failed: u32,
     since: Instant,
+    covered: Tally,
 }
 
-impl Score {
+type Check = fn(&mut Run) -> Result<(), String>;
+
+const CHECKS: [(&str, Check); 6] = [
+    ("guard pages", guard_pages),
+    ("comparison", comparison),
+    ("codes reached", codes_reached),
+    ("wrong rules", wrong_rules),
+    ("demand 3", demand_3),
+    ("wrong maps", wrong_maps),
+];
+
+impl Run<'_> {
+    /// Counts a check, with the time since the one before.
     fn count(&mut self, what: &str, good: bool) {
         let seconds = self.since.elapsed().as_secs_f64();
-        let verdict = if good { "passed" } else { "FAILED" };
-        println!("{verdict}: {what} ({seconds:.1} s)");
-        *(if good {
-            &mut self.passed
-        } else {
-            &mut self.failed
-        }) += 1;
         self.since = Instant::now();
+        if good {
+            println!("passed: {what} ({seconds:.1} s)");
+            self.passed += 1;
+        } else {
+            println!("FAILED: {what} ({seconds:.1} s)");
+            self.failed += 1;
+        }
     }
 }
 
 /// Runs all checks. The last line is 'N passed, M failed'.
-pub fn all(setup: &Setup, sizes: &Sizes) -> Result<bool, String> {
+pub fn all(setup: &Setup, sizes: &Sizes) -> bool {
     println!("library {}, seed {}", setup.library, setup.seed);
-    let mut score = Score {
+    let mut run = Run {
+        setup,
+        sizes,
         passed: 0,
         failed: 0,
         since: Instant::now(),
+        covered: Tally::default(),
     };
-    guard_pages(setup, &mut score)?;
-    let mut covered = Tally::default();
-    for group in groups(sizes) {
-        let (tally, good) = group.run(setup)?;
-        let calls = format!("{} builds, {} lookups", tally.builds, tally.lookups);
-        score.count(&format!("{}: {calls}, no difference", group.name), good);
-        covered.add(&tally);
+    for (name, check) in CHECKS {
+        if let Err(problem) = check(&mut run) {
+            run.count(&format!("{name}: {problem}"), false);
+        }
     }
-    covered.print_labels();
-    covered.print_outcomes();
-    codes_reached(&covered, &mut score);
-    wrong_rules(setup, &mut score)?;
-    demand_3(setup, sizes, &mut score)?;
-    wrong_maps(setup, sizes, &mut score)?;
-    println!("{} passed, {} failed", score.passed, score.failed);
-    Ok(score.failed == 0)
+    println!("{} passed, {} failed", run.passed, run.failed);
+    run.failed == 0
 }
 
 /// A server that goes past a slice, or writes what is only lent for reading, stops.
-fn guard_pages(setup: &Setup, score: &mut Score) -> Result<(), String> {
-    let mut server = Server::named(&setup.library)?;
+fn guard_pages(run: &mut Run) -> Result<(), String> {
+    let mut server = Server::named(&run.setup.library)?;
     let mut stopped = 0;
     for (trespass, what) in TRESPASSES {
         if server.is_stopped_by(trespass) {
@@ -121,13 +130,35 @@ fn guard_pages(setup: &Setup, score: &mut Score) -> Result<(), String> {
         "guard pages: {stopped} of {} trespasses stop the server",
         TRESPASSES.len()
     );
-    score.count(&what, stopped == TRESPASSES.len());
+    run.count(&what, stopped == TRESPASSES.len());
+    Ok(())
+}
+
+/// The library answers as the paper says, in every group of cases.
+fn comparison(run: &mut Run) -> Result<(), String> {
+    for group in groups(run.sizes) {
+        let (tally, good) = group.run(run.setup)?;
+        let found = if good {
+            "no difference"
+        } else {
+            "a difference"
+        };
+        let what = format!(
+            "{}: {} builds, {} lookups, {found}",
+            group.name, tally.builds, tally.lookups
+        );
+        run.count(&what, good);
+        run.covered.add(&tally);
+    }
+    run.covered.print_labels();
+    run.covered.print_outcomes();
     Ok(())
 }
 
 /// Builds reach 0 to 8, lookups 0 to 5, 7, 9 and 10. No input reaches 11: bounds over a cube hold the
 /// bounds over each cube in it, so a record that passes 2^60 over a smaller cube passes it over the root.
-fn codes_reached(covered: &Tally, score: &mut Score) {
+fn codes_reached(run: &mut Run) -> Result<(), String> {
+    let covered = &run.covered;
     let reached = |counts: &[u64]| -> Vec<usize> {
         let codes = counts.iter().enumerate();
         codes
@@ -137,14 +168,15 @@ fn codes_reached(covered: &Tally, score: &mut Score) {
     };
     let good = reached(&covered.build_codes) == [0, 1, 2, 3, 4, 5, 6, 7, 8]
         && reached(&covered.lookup_codes) == [0, 1, 2, 3, 4, 5, 7, 9, 10];
-    score.count("codes reached: every one of 0 to 10, never 11", good);
+    run.count("codes reached: every one of 0 to 10, never 11", good);
+    Ok(())
 }
 
 /// Each wrong rule is noticed by the comparison that found no difference.
-fn wrong_rules(setup: &Setup, score: &mut Score) -> Result<(), String> {
+fn wrong_rules(run: &mut Run) -> Result<(), String> {
     let (mut noticed, mut of) = (0, 0);
     for slip in slips() {
-        let (_, difference) = slip.group.compare(setup, &slip.oracle)?;
+        let (_, difference) = slip.group.compare(run.setup, &slip.oracle)?;
         of += 1;
         match difference {
             Some(found) => {
@@ -155,16 +187,16 @@ fn wrong_rules(setup: &Setup, score: &mut Score) -> Result<(), String> {
         }
     }
     let what = format!("wrong rules: {noticed} of {of} noticed");
-    score.count(&what, noticed == of);
+    run.count(&what, noticed == of);
     Ok(())
 }
 
-fn demand_3(setup: &Setup, sizes: &Sizes, score: &mut Score) -> Result<(), String> {
+fn demand_3(run: &mut Run) -> Result<(), String> {
     let Found {
         counts,
         point,
         touch,
-    } = demand3_run::run(setup, sizes.sheets())?;
+    } = demand3_run::run(run.setup, run.sizes.sheets())?;
     for told in point.iter().chain(&touch) {
         println!("DEMAND 3: {told}");
     }
@@ -181,23 +213,23 @@ fn demand_3(setup: &Setup, sizes: &Sizes, score: &mut Score) -> Result<(), Strin
          {complement} terminal by complement, {gray} gray"
     );
     let what = format!("demand 3, points: {} points agree", counts.points);
-    score.count(&what, point.is_none());
+    run.count(&what, point.is_none());
     let what = format!(
         "demand 3, no touch: {} white and black of one map, {} of two",
         counts.pairs, counts.pairs_of_two_maps
     );
-    score.count(&what, touch.is_none());
+    run.count(&what, touch.is_none());
     Ok(())
 }
 
 /// Maps that break demand 3 are noticed by the checks that found none.
-fn wrong_maps(setup: &Setup, sizes: &Sizes, score: &mut Score) -> Result<(), String> {
-    let (turned, noticed) = demand3_run::turned_over(setup, sizes.turned_over())?;
+fn wrong_maps(run: &mut Run) -> Result<(), String> {
+    let (turned, noticed) = demand3_run::turned_over(run.setup, run.sizes.turned_over())?;
     let strip = demand3_run::strip_is_noticed()?;
     let touch = demand3_run::touch_is_noticed()?;
     println!("    the strip between corners: {strip}; [0, 2] called Out touches: {touch}");
     let what = format!("wrong maps: {noticed} of {turned} leaves turned over are noticed");
-    score.count(&what, strip && touch && turned > 0 && noticed == turned);
+    run.count(&what, strip && touch && turned > 0 && noticed == turned);
     Ok(())
 }
 

@@ -1,7 +1,7 @@
 //! Demand 3 from outside: points of fractions against the leaves of maps that the library built, and white
 //! leaves against black ones, in one map and in two of one sheet.
 
-use crate::case::{Build, Case};
+use crate::case::{hex, Build, Case};
 use crate::plan::{self, Plan};
 use crate::random::Random;
 use crate::server::Server;
@@ -80,8 +80,10 @@ pub fn built(plan: &Plan, leaves: usize, server: &mut Server) -> Result<Option<B
     if outcome.replies[0].code != 0 {
         return Ok(None);
     }
-    let opened = map::open(&outcome.out, &plan.sheet())
-        .map_err(|refusal| format!("a map that was built does not open: {refusal:?}"))?;
+    let opened = map::open(&outcome.out, &plan.sheet()).map_err(|refusal| {
+        let request = hex(&case.request());
+        format!("a map that was built does not open: {refusal:?}; replay {request}")
+    })?;
     Ok(Some(Built {
         root: opened.root,
         leaves: opened.cubes().collect(),

@@ -25,6 +25,10 @@ pub struct Setup {
     pub library: String,
 }
 
+/// What runs this program, from the repository's top.
+const COMMAND: &str = "cargo run --release --offline --manifest-path tests/against/Cargo.toml \
+                       --target-dir target/cargo --";
+
 /// Does the same on two threads at once: as many as the smallest machine has cores for.
 pub fn on_two_threads<T: Send>(
     work: impl Fn() -> Result<T, String> + Sync,
@@ -51,16 +55,20 @@ impl Group {
     pub fn run(&self, setup: &Setup) -> Result<(Tally, bool), String> {
         let (tally, difference) = self.compare(setup, &by_paper)?;
         if let Some(found) = &difference {
-            let mut server = Server::named(&setup.library)?;
+            let (number, seed, library) = (found.number, setup.seed, &setup.library);
+            println!("DIFFERENCE in {}, case {number} of seed {seed}:", self.name);
             println!(
-                "DIFFERENCE in {}, case {} of seed {}",
-                self.name, found.number, setup.seed
+                "{COMMAND} case '{}' {number} seed {seed} library {library}",
+                self.name
             );
-            report(&shrink::shrunk(&found.case, &mut server), &mut server);
+            let mut server = Server::named(library)?;
+            let small = shrink::shrunk(&found.case, &mut server);
+            println!("a smaller case:");
             println!(
-                "the whole case: case '{}' {} seed {}",
-                self.name, found.number, setup.seed
+                "{COMMAND} replay {} library {library}",
+                hex(&small.request())
             );
+            report(&small, &mut server);
         }
         Ok((tally, difference.is_none()))
     }
@@ -112,7 +120,6 @@ impl Group {
 /// Runs one case and prints both answers. Answers whether they are the same.
 pub fn report(case: &Case, server: &mut Server) -> bool {
     let (expected, given) = (by_paper(case), server.ask(case));
-    println!("run it again: replay {}", hex(&case.request()));
     println!("  the paper:   {}", answer(&expected));
     match &given {
         Ok(outcome) => println!("  the library: {}", answer(outcome)),

@@ -70,7 +70,7 @@ fn run(words: &[&str]) -> Result<bool, String> {
         }
         _ => {
             let (setup, sizes) = settings(words)?;
-            checks::all(&setup, &sizes)
+            Ok(checks::all(&setup, &sizes))
         }
     }
 }

@@ -49,10 +49,12 @@ impl Server {
         })
     }
 
-    /// Has the server do what no library may. Answers whether that stopped it.
+    /// Has the server do what no library may. Answers whether that stopped it as it should.
     pub fn is_stopped_by(&mut self, trespass: u8) -> bool {
-        self.send(&[b't', trespass], |from| take::<1>(from))
-            .is_err()
+        match self.send(&[b't', trespass], |from| take::<1>(from)) {
+            Ok(_) => false,
+            Err(stopped) => stopped.contains("SIGSEGV"),
+        }
     }
 
     /// Sends a request and takes what comes back; if the server stops, tells how.

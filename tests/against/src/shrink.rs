@@ -3,12 +3,17 @@
 use crate::case::{Build, Case, Lookup};
 use crate::damage_maps::tell_length;
 use crate::expect::by_paper;
+use crate::plan;
 use crate::server::Server;
 use paper::map::{HEADER, LEAF};
 use paper::root::Root;
 use paper::sheet::{self, Record, Sheet};
+use std::time::{Duration, Instant};
 
-const MOST_TRIES: usize = 3000;
+const MOST_TRIES: usize = 10_000;
+const MOST_TIME: Duration = Duration::from_secs(60);
+/// A sheet with fewer records may have a map of a billion leaves; such a case is not tried.
+const MOST_LEAVES: usize = 5_000;
 
 /// The smallest case that was found, by taking the first smaller one that still differs, again and again.
 pub fn shrunk(case: &Case, server: &mut Server) -> Case {
@@ -18,75 +23,71 @@ pub fn shrunk(case: &Case, server: &mut Server) -> Case {
 }
 
 fn smallest(case: &Case, differs: &mut dyn FnMut(&Case) -> bool) -> Case {
-    let mut best = case.clone();
+    let start = Instant::now();
     let mut tries = 0;
-    while tries < MOST_TRIES {
-        let next = smaller(&best).into_iter().find(|candidate| {
-            tries += 1;
-            tries < MOST_TRIES && differs(candidate)
-        });
-        match next {
-            Some(candidate) => best = candidate,
-            None => break,
-        }
+    let mut goes_on = || {
+        tries += 1;
+        tries <= MOST_TRIES && start.elapsed() < MOST_TIME
+    };
+    let mut best = case.clone();
+    while let Some(next) = {
+        let mut candidates = smaller(&best).take_while(|_| goes_on());
+        candidates.find(&mut *differs)
+    } {
+        best = next;
     }
     best
 }
 
+/// Things made one by one, as they are tried: a map may be large, and there are many smaller ones.
+type Tries<'a, T> = Box<dyn Iterator<Item = T> + 'a>;
+
 /// Cases that are a little simpler, the greatest steps first.
-fn smaller(case: &Case) -> Vec<Case> {
+fn smaller(case: &Case) -> Tries<'_, Case> {
     match case {
-        Case::Build(build) => smaller_builds(build),
-        Case::Lookup(lookup) => smaller_lookups(lookup),
+        Case::Build(build) => Box::new(smaller_builds(build).map(Case::Build)),
+        Case::Lookup(lookup) => Box::new(smaller_lookups(lookup).map(Case::Lookup)),
     }
 }
 
-fn smaller_builds(build: &Build) -> Vec<Case> {
-    let mut cases = Vec::new();
-    let mut add = |change: &dyn Fn(&mut Build)| {
-        let mut other = build.clone();
-        change(&mut other);
-        if other != *build {
-            cases.push(Case::Build(other));
-        }
-    };
-    for sheet in smaller_sheets(&build.sheet) {
-        add(&|other| other.sheet = sheet.clone());
-    }
-    for root in smaller_roots(&build.root) {
-        add(&|other| other.root = root);
-    }
-    for out_len in [0, build.out_len / 2, build.out_len.saturating_sub(1)] {
-        add(&|other| other.out_len = out_len);
-    }
-    add(&|other| other.placing = 0);
-    add(&|other| other.out_seed = 1);
-    cases
+/// A copy with one change.
+fn with<T: Clone>(one: &T, change: impl FnOnce(&mut T)) -> T {
+    let mut other = one.clone();
+    change(&mut other);
+    other
 }
 
-fn smaller_lookups(lookup: &Lookup) -> Vec<Case> {
-    let mut cases = Vec::new();
-    let mut add = |change: &dyn Fn(&mut Lookup)| {
-        let mut other = lookup.clone();
-        change(&mut other);
-        if other != *lookup {
-            cases.push(Case::Lookup(other));
-        }
+fn smaller_builds(build: &Build) -> impl Iterator<Item = Build> + '_ {
+    let sheets = smaller_sheets(&build.sheet);
+    let roots = smaller_roots(&build.root).into_iter();
+    let lengths = [0, build.out_len / 2, build.out_len.saturating_sub(1)];
+    sheets
+        .map(|sheet| with(build, |other| other.sheet = sheet))
+        .chain(roots.map(|root| with(build, |other| other.root = root)))
+        .chain(lengths.map(|out_len| with(build, |other| other.out_len = out_len)))
+        .chain([with(build, |other| other.placing = 0)])
+        .chain([with(build, |other| other.out_seed = 1)])
+        .filter(move |other| other != build && is_modest(other))
+}
+
+fn is_modest(build: &Build) -> bool {
+    plan::shallow(&build.sheet, &build.root, MOST_LEAVES) == build.root
+}
+
+fn smaller_lookups(lookup: &Lookup) -> impl Iterator<Item = Lookup> + '_ {
+    let one_point = |&point: &[i32; 3]| with(lookup, |other| other.points = vec![point]);
+    let halved = |axis: usize| {
+        with(lookup, |other| {
+            other.points.iter_mut().for_each(|point| point[axis] /= 2);
+        })
     };
-    for &point in &lookup.points {
-        add(&|other| other.points = vec![point]);
-    }
-    for sheet in smaller_sheets(&lookup.sheet) {
-        add(&|other| other.sheet = sheet.clone());
-    }
-    for map in smaller_maps(&lookup.map) {
-        add(&|other| other.map = map.clone());
-    }
-    for axis in 0..3 {
-        add(&|other| other.points.iter_mut().for_each(|p| p[axis] /= 2));
-    }
-    add(&|other| other.placing = 0);
-    cases
+    let points = lookup.points.iter().map(one_point);
+    points
+        .chain(smaller_maps(&lookup.map).map(|map| with(lookup, |other| other.map = map)))
+        .chain(smaller_sheets(&lookup.sheet).map(|sheet| with(lookup, |other| other.sheet = sheet)))
+        .chain((0..3).map(halved))
+        .chain([with(lookup, |other| other.placing = 0)])
+        .filter(move |other| other != lookup)
 }
 
 fn smaller_roots(root: &Root) -> Vec<Root> {
@@ -100,22 +101,21 @@ fn smaller_roots(root: &Root) -> Vec<Root> {
     }
     for axis in 0..3 {
         for low in [0, root.low[axis] / 2] {
-            let mut other = *root;
-            other.low[axis] = low;
-            roots.push(other);
+            roots.push(with(root, |other| other.low[axis] = low));
         }
     }
     roots
 }
 
 /// A good sheet by its records, another by its bytes.
-fn smaller_sheets(bytes: &[u8]) -> Vec<Vec<u8>> {
+fn smaller_sheets(bytes: &[u8]) -> Tries<'_, Vec<u8>> {
     match sheet::read(bytes) {
-        Ok(sheet) => smaller_records(&sheet),
-        Err(_) => smaller_bytes(bytes),
+        Ok(sheet) => Box::new(smaller_records(&sheet).into_iter()),
+        Err(_) => Box::new((0..bytes.len()).flat_map(|at| without_byte(bytes, at))),
     }
 }
 
+/// The first records only; a record left out; a constant nearer to 0.
 fn smaller_records(sheet: &Sheet) -> Vec<Vec<u8>> {
     let mut sheets = Vec::new();
     let records = &sheet.records;
@@ -123,13 +123,13 @@ fn smaller_records(sheet: &Sheet) -> Vec<Vec<u8>> {
         sheets.push(sheet::write(&records[..end]));
     }
     for dropped in (0..records.len()).rev() {
-        for instead in (0..dropped).chain([dropped]) {
+        let operands = records[dropped].operands();
+        for instead in operands.into_iter().chain([0, dropped]) {
             sheets.extend(without(records, dropped, instead).map(|left| sheet::write(&left)));
         }
         for c in simpler_constants(&records[dropped]) {
-            let mut other = records.clone();
-            other[dropped] = Record::Constant(c);
-            sheets.push(sheet::write(&other));
+            let simpler = with(records, |other| other[dropped] = Record::Constant(c));
+            sheets.push(sheet::write(&simpler));
         }
     }
     sheets.retain(|bytes| sheet::read(bytes).is_ok());
@@ -143,11 +143,11 @@ fn simpler_constants(record: &Record) -> Vec<i32> {
     }
 }
 
-/// The records without one; what used it uses an earlier one instead. None if it is used and there is no
-/// other: that is asked by naming itself.
+/// The records without one; what used it uses another instead. None if that is no earlier one of the same
+/// sort and it is used.
 fn without(records: &[Record], dropped: usize, instead: usize) -> Option<Vec<Record>> {
     let used = records.iter().any(|r| r.operands().contains(&dropped));
-    if used && (instead == dropped || records[instead].sort() != records[dropped].sort()) {
+    if used && (instead >= dropped || records[instead].sort() != records[dropped].sort()) {
         return None;
     }
     let moved = |a: usize| {
@@ -178,47 +178,36 @@ fn renumbered(record: &Record, to: &dyn Fn(usize) -> usize) -> Record {
     }
 }
 
-/// Bytes left out, with the length told again and not; bytes set to 0.
-fn smaller_bytes(bytes: &[u8]) -> Vec<Vec<u8>> {
-    let mut others = Vec::new();
-    for at in 0..bytes.len() {
-        let mut left = bytes.to_vec();
-        left.remove(at);
-        others.push(left.clone());
-        if at > 2 {
-            let length = left.len() as u16 - 2;
-            left[..2].copy_from_slice(&length.to_be_bytes());
-            others.push(left);
-        }
-        let mut zeroed = bytes.to_vec();
-        zeroed[at] = 0;
-        others.push(zeroed);
+/// A byte left out, with the length told again and not; or set to 0.
+fn without_byte(bytes: &[u8], at: usize) -> Vec<Vec<u8>> {
+    let zeroed = with(&bytes.to_vec(), |other| other[at] = 0);
+    let left = [&bytes[..at], &bytes[at + 1..]].concat();
+    let mut told = left.clone();
+    if told.len() >= 3 {
+        let length = told.len() as u16 - 2;
+        told[..2].copy_from_slice(&length.to_be_bytes());
     }
-    others
+    vec![told, left, zeroed]
 }
 
-/// Eight leaves taken for one, leaves left out, bytes set to 0, all with the length told.
-fn smaller_maps(map: &[u8]) -> Vec<Vec<u8>> {
-    let mut maps = Vec::new();
-    for at in (HEADER..map.len()).step_by(LEAF) {
-        for (width, level) in [(8 * LEAF, Some(map[at].saturating_sub(1))), (LEAF, None)] {
-            if at + width <= map.len() {
-                let mut left = map.to_vec();
-                left.splice(
-                    at..at + width,
-                    level.iter().flat_map(|&level| [level, 0, 0]),
-                );
-                tell_length(&mut left);
-                maps.push(left);
-            }
-        }
-    }
-    for at in 0..map.len().min(HEADER + 100 * LEAF) {
-        let mut zeroed = map.to_vec();
-        zeroed[at] = 0;
-        maps.push(zeroed);
-    }
-    maps
+/// The first half of the leaves; eight leaves taken for one; a leaf left out; a byte set to 0.
+fn smaller_maps(map: &[u8]) -> impl Iterator<Item = Vec<u8>> + '_ {
+    let leaves = map.len().saturating_sub(HEADER) / LEAF;
+    let offset = |leaf: usize| HEADER + LEAF * leaf;
+    let with_leaves = move |from: usize, to: usize, instead: &[u8]| {
+        let mut other = [&map[..offset(from)], instead, &map[offset(to)..]].concat();
+        tell_length(&mut other);
+        other
+    };
+    let first_half = (leaves > 1).then(|| with_leaves(leaves / 2, leaves, &[]));
+    let joined = (8..=leaves).map(move |end| {
+        let up = map[offset(end - 8)].saturating_sub(1);
+        with_leaves(end - 8, end, &[up, 0, 0])
+    });
+    let left_out = (0..leaves).map(move |leaf| with_leaves(leaf, leaf + 1, &[]));
+    let zeroed = (0..map.len()).map(|at| with(&map.to_vec(), |other| other[at] = 0));
+    let shorter = first_half.into_iter().chain(joined).chain(left_out);
+    shorter.chain(zeroed)
 }
 
 #[cfg(test)]

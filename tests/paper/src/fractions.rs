@@ -131,3 +131,52 @@ impl Values {
         self.holds(self.0.len() - 1)
     }
 }
+
+#[cfg(test)]
+mod tests {
+    use super::*;
+
+    fn point(numerators: [i64; 3], denominator: i64) -> Point {
+        Point {
+            numerators,
+            denominator,
+        }
+    }
+
+    /// x² at most 2 about its root: 14142/10000 is inside and 14143/10000 is not.
+    #[test]
+    fn exact_beside_a_root() {
+        let records = vec![X, Square(0), Constant(2), Difference(1, 2), Face(3)];
+        let sheet = Sheet { records };
+        let is_inside = |x| Values::at(&sheet, &point([x, 0, 0], 10_000)).is_inside();
+        assert!(is_inside(14_142) && !is_inside(14_143));
+        assert!(is_inside(-14_142) && !is_inside(-14_143));
+    }
+
+    /// A point on a face satisfies it: x + y = z at 1/3, 1/6, 1/2, and one step beside.
+    #[test]
+    fn on_a_face_and_beside() {
+        let sum_less_z = vec![X, Y, Z, Sum(0, 1), Difference(3, 2)];
+        let logical = [Face(4), Complement(5), Either(5, 6), Both(5, 6)];
+        let records = [sum_less_z.as_slice(), &logical].concat();
+        let sheet = Sheet { records };
+        let on = Values::at(&sheet, &point([2, 1, 3], 6));
+        assert!(on.holds(5) && !on.holds(6) && on.holds(7) && !on.is_inside());
+        let beside = Values::at(&sheet, &point([20_001, 10_000, 30_000], 60_000));
+        assert!(!beside.holds(5) && beside.holds(6));
+    }
+
+    /// Closed cubes include their high planes, and nothing beyond.
+    #[test]
+    fn in_a_closed_cube() {
+        let cube = Cube {
+            low: [-1, 0, 4],
+            side: 2,
+            level: 3,
+        };
+        assert!(point([3, 6, 18], 3).is_in_closed(&cube));
+        assert!(point([-3, 0, 12], 3).is_in_closed(&cube));
+        assert!(!point([4, 6, 18], 3).is_in_closed(&cube));
+        assert!(!point([-3, -1, 12], 3).is_in_closed(&cube));
+    }
+}

@@ -18,6 +18,9 @@ pub struct Made {
 const LARGEST_ONCE_IN: u64 = 20_000;
 const LARGEST_LEAVES: usize = 2_200_000;
 
+/// So many builds have smaller maps than later ones, so that the gate is quick under an emulator.
+const QUICK: u64 = 20_000;
+
 /// The build of a number.
 pub fn any(number: u64, random: &mut Random) -> Made {
     if number.is_multiple_of(LARGEST_ONCE_IN) {
@@ -31,7 +34,7 @@ pub fn any(number: u64, random: &mut Random) -> Made {
     let mut plan = sound(random);
     let mut leaves = 0;
     if plan.root.in_limits() {
-        let most = most_leaves(random);
+        let most = most_leaves(random) * if number < QUICK { 1 } else { 5 };
         leaves = plan.choose_depth(random, most);
     }
     let buffer = buffer(length(leaves), random);

@@ -150,7 +150,7 @@ fn comparison(run: &mut Run) -> Result<(), String> {
         run.count(&what, good);
         run.covered.add(&tally);
     }
-    run.covered.print_labels();
+    run.covered.print_sorts();
     run.covered.print_outcomes();
     Ok(())
 }

@@ -1,5 +1,6 @@
 //! Runs of demand 3, and of maps that break it, which have to be noticed.
 
+use crate::case::hex;
 use crate::demand3::{self, built, points_of, touching, wrong_leaf, Built, Counts};
 use crate::group::{on_two_threads, Setup};
 use crate::plan::Plan;
@@ -60,53 +61,57 @@ fn part(setup: &Setup, next: &AtomicU64, sheets: u64) -> Result<Found, String> {
             return Ok(found);
         }
         let mut random = Random::of_case(setup.seed, "demand 3", number);
-        one_sheet(number, &mut random, &mut server, &mut found)?;
+        one_sheet(&mut random, &mut server, &mut found)?;
     }
 }
 
-/// A sheet with two maps over roots that overlap, lie side by side or are of other sizes.
-fn one_sheet(
-    number: u64,
-    random: &mut Random,
-    server: &mut Server,
-    found: &mut Found,
-) -> Result<(), String> {
-    let mut plan = demand3::sheet(random);
-    let leaves = demand3::depth(&mut plan, random);
-    let first = built(&plan, leaves, server)?;
-    let other = demand3::other_root(&plan.root, random);
-    let mut again = Plan {
-        root: other,
-        ..plan
-    };
-    let leaves = demand3::depth(&mut again, random);
-    let second = built(&again, leaves, server)?;
-    let maps: Vec<Built> = first.into_iter().chain(second).collect();
-    let sheet = again.sheet();
+/// Holds the two maps of one sheet to the demand.
+fn one_sheet(random: &mut Random, server: &mut Server, found: &mut Found) -> Result<(), String> {
+    let (plan, maps) = two_maps(random, server)?;
+    let told = |wrong: String| format!("sheet {}: {wrong}", hex(&plan.bytes()));
     for map in &maps {
         found.counts.maps += 1;
         found.counts.leaves += map.leaves.len() as u64;
         let points = points_of_map(map, random);
-        let wrong = wrong_leaf(&sheet, &map.leaves, &points, &mut found.counts);
-        let told = wrong.map(|wrong| format!("sheet {number}: {wrong:?}"));
-        found.point = found.point.take().or(told);
+        let wrong = wrong_leaf(&plan.sheet(), &map.leaves, &points, &mut found.counts);
+        let wrong = wrong.map(|wrong| told(format!("{:?}, {wrong:?}", map.root)));
+        found.point = found.point.take().or(wrong);
     }
-    if let [one, two] = &maps[..] {
-        demand3::count_roots(&one.root.cube(), &two.root.cube(), &mut found.counts);
+    let touched = two_that_touch(&maps, &mut found.counts);
+    let touched = touched.map(|pair| told(format!("{pair:?}")));
+    found.touch = found.touch.take().or(touched);
+    Ok(())
+}
+
+/// A sheet with its maps over roots that overlap, lie side by side or are of other sizes: two, if neither
+/// is refused.
+fn two_maps(random: &mut Random, server: &mut Server) -> Result<(Plan, Vec<Built>), String> {
+    let mut plan = demand3::sheet(random);
+    let leaves = demand3::depth(&mut plan, random);
+    let first = built(&plan, leaves, server)?;
+    plan.root = demand3::other_root(&plan.root, random);
+    let leaves = demand3::depth(&mut plan, random);
+    let second = built(&plan, leaves, server)?;
+    Ok((plan, first.into_iter().chain(second).collect()))
+}
+
+/// A white and a black leaf that touch, in one of the maps or in two.
+fn two_that_touch(maps: &[Built], counts: &mut Counts) -> Option<(Cube, Cube)> {
+    if let [one, two] = maps {
+        demand3::count_roots(&one.root.cube(), &two.root.cube(), counts);
     }
+    let mut found = None;
     for (a, some) in maps.iter().enumerate() {
         for (b, others) in maps.iter().enumerate() {
             let pairs = if a == b {
-                &mut found.counts.pairs
+                &mut counts.pairs
             } else {
-                &mut found.counts.pairs_of_two_maps
+                &mut counts.pairs_of_two_maps
             };
-            let touched = touching(&some.leaves, &others.leaves, pairs);
-            let told = touched.map(|pair| format!("sheet {number}: {pair:?}"));
-            found.touch = found.touch.take().or(told);
+            found = found.or(touching(&some.leaves, &others.leaves, pairs));
         }
     }
-    Ok(())
+    found
 }
 
 /// Points of the root and of some leaves.

@@ -101,22 +101,12 @@ fn of_other_sheet(random: &mut Random) -> Setting {
 fn unbuilt(random: &mut Random) -> Setting {
     let plan = builds::sound(random);
     let map = maps::unbuilt(&plan.sheet(), random);
-    let root = root_of(&map);
+    let root = paper::map::root(&map);
     Setting {
         label: "a map of random leaves",
         sheet: plan.bytes(),
         map,
         root,
-    }
-}
-
-/// The root as a map's header has it.
-fn root_of(map: &[u8]) -> Root {
-    let number = |at: usize| i32::from_be_bytes([map[at], map[at + 1], map[at + 2], map[at + 3]]);
-    Root {
-        low: [number(5), number(9), number(13)],
-        k: map[17],
-        d: map[18],
     }
 }
 
@@ -127,7 +117,7 @@ fn beyond_limit(random: &mut Random) -> Setting {
     let own = paper::map::write(&plan.root, &[]);
     map[5..17].copy_from_slice(&own[5..17]);
     map[17] = plan.root.k.max(map[18]);
-    let root = root_of(&map);
+    let root = paper::map::root(&map);
     Setting {
         label: "values at 2^60 and beside",
         sheet: plan.bytes(),

@@ -13,6 +13,7 @@ mod demand3;
 mod demand3_run;
 mod every_byte;
 mod expect;
+mod features;
 mod graphs;
 mod group;
 mod limits;

@@ -2,16 +2,22 @@
 
 use crate::builds::Made;
 use crate::case::{Build, Case, Lookup, Outcome, PLACINGS};
+use crate::features;
+use paper::Reply;
 use std::collections::BTreeMap;
 
 /// Codes 0 to 11.
 pub const CODES: usize = 12;
 
+type Counted = BTreeMap<&'static str, u64>;
+
 #[derive(Default)]
 pub struct Tally {
     pub builds: u64,
     pub lookups: u64,
-    pub labels: BTreeMap<&'static str, u64>,
+    /// What cases were made as, and what they have.
+    labels: Counted,
+    features: Counted,
     pub build_codes: [u64; CODES],
     pub lookup_codes: [u64; CODES],
     /// Of lookups that were answered: outside, inside, undecided.
@@ -20,50 +26,62 @@ pub struct Tally {
     pub sides: [u64; 17],
     pub depths: [u64; 11],
     pub longest_map: u64,
-    pub most_records: usize,
     placings: [u64; PLACINGS],
 }
 
 impl Tally {
     /// Counts a case by what the paper says of it.
     pub fn count(&mut self, made: &Made, expected: &Outcome) {
+        let calls = made.case.calls() as u64;
         for label in &made.labels {
-            *self.labels.entry(label).or_default() += made.case.calls() as u64;
+            *self.labels.entry(label).or_default() += calls;
         }
-        let (Case::Build(Build { placing, .. }) | Case::Lookup(Lookup { placing, .. })) =
-            &made.case;
-        self.placings[usize::from(*placing)] += made.case.calls() as u64;
         match &made.case {
             Case::Build(build) => {
-                let reply = expected.replies[0];
-                self.builds += 1;
-                self.build_codes[reply.code as usize] += 1;
-                if reply.code == 0 {
-                    self.sides[usize::from(build.root.k)] += 1;
-                    self.depths[usize::from(build.root.d)] += 1;
-                    self.longest_map = self.longest_map.max(reply.number);
-                    let sheet = paper::sheet::read(&build.sheet).expect("its map was built");
-                    self.most_records = self.most_records.max(sheet.records.len());
+                self.placings[usize::from(build.placing)] += calls;
+                self.count_build(build, expected.replies[0]);
+            }
+            Case::Lookup(lookup) => {
+                self.placings[usize::from(lookup.placing)] += calls;
+                for (&point, &reply) in lookup.points.iter().zip(&expected.replies) {
+                    self.count_lookup(lookup, point, reply);
                 }
             }
-            Case::Lookup(_) => {
-                for reply in &expected.replies {
-                    self.lookups += 1;
-                    self.lookup_codes[reply.code as usize] += 1;
-                    if reply.code == 0 {
-                        self.answers[reply.number as usize] += 1;
-                    }
-                }
-            }
+        }
+    }
+
+    fn count_build(&mut self, build: &Build, reply: Reply) {
+        self.builds += 1;
+        self.build_codes[reply.code as usize] += 1;
+        self.count_features(features::of_build(build));
+        if reply.code == 0 {
+            self.sides[usize::from(build.root.k)] += 1;
+            self.depths[usize::from(build.root.d)] += 1;
+            self.longest_map = self.longest_map.max(reply.number);
+            self.count_features(vec![features::of_length(reply.number)]);
+        }
+    }
+
+    fn count_lookup(&mut self, lookup: &Lookup, point: [i32; 3], reply: Reply) {
+        self.lookups += 1;
+        self.lookup_codes[reply.code as usize] += 1;
+        self.count_features(features::of_point(lookup, point));
+        if reply.code == 0 {
+            self.answers[reply.number as usize] += 1;
+        }
+    }
+
+    fn count_features(&mut self, found: Vec<&'static str>) {
+        for feature in found {
+            *self.features.entry(feature).or_default() += 1;
         }
     }
 
     pub fn add(&mut self, other: &Tally) {
         self.builds += other.builds;
         self.lookups += other.lookups;
-        for (label, count) in &other.labels {
-            *self.labels.entry(label).or_default() += count;
-        }
+        add_counted(&mut self.labels, &other.labels);
+        add_counted(&mut self.features, &other.features);
         add_each(&mut self.build_codes, &other.build_codes);
         add_each(&mut self.lookup_codes, &other.lookup_codes);
         add_each(&mut self.answers, &other.answers);
@@ -71,28 +89,38 @@ impl Tally {
         add_each(&mut self.depths, &other.depths);
         add_each(&mut self.placings, &other.placings);
         self.longest_map = self.longest_map.max(other.longest_map);
-        self.most_records = self.most_records.max(other.most_records);
     }
 
-    /// Prints the counts by label, a line each.
-    pub fn print_labels(&self) {
-        for (label, count) in &self.labels {
-            println!("    {label}: {count}");
-        }
+    /// Prints how many there were of each sort, a line each.
+    pub fn print_sorts(&self) {
+        println!("  calls by what they were made as:");
+        print_counted(&self.labels);
+        println!("  builds by what they have, and points by where they are:");
+        print_counted(&self.features);
     }
 
     /// Prints what builds and lookups came to.
     pub fn print_outcomes(&self) {
+        println!("  what came of them:");
         println!("    build by code, 0 to 11: {}", list(&self.build_codes));
         println!("    lookup by code, 0 to 11: {}", list(&self.lookup_codes));
         println!("    outside, inside, undecided: {}", list(&self.answers));
         println!("    calls by placing of slices: {}", list(&self.placings));
         println!("    maps built by k, 0 to 16: {}", list(&self.sides));
         println!("    maps built by d, 0 to 10: {}", list(&self.depths));
-        println!(
-            "    longest map: {} bytes; most records of a map's sheet: {}",
-            self.longest_map, self.most_records
-        );
+        println!("    longest map: {} bytes", self.longest_map);
+    }
+}
+
+fn add_counted(to: &mut Counted, from: &Counted) {
+    for (name, count) in from {
+        *to.entry(name).or_default() += count;
+    }
+}
+
+fn print_counted(counted: &Counted) {
+    for (name, count) in counted {
+        println!("    {name}: {count}");
     }
 }
 

@@ -66,7 +66,8 @@ fn number(four: &[u8]) -> u32 {
     u32::from_be_bytes(four.try_into().expect("four bytes"))
 }
 
-fn root(bytes: &[u8]) -> Root {
+/// The root and depth that a map's header tells, in limits or not.
+pub fn root(bytes: &[u8]) -> Root {
     Root {
         low: [5, 9, 13].map(|at| number(&bytes[at..at + 4]) as i32),
         k: bytes[17],

@@ -41,7 +41,7 @@ pub fn any(number: u64, random: &mut Random) -> Made {
     lent(plan.label, plan.bytes(), &plan.root, buffer, random)
 }
 
-/// One of the largest maps, by turns of two sorts, and how many leaves it has.
+/// One of the largest maps, by turns of three sorts, and how many leaves it has.
 pub fn largest(turn: u64, random: &mut Random) -> (Plan, usize) {
     let mut plan = rooms::largest(turn, random);
     let (d, leaves) = plan::deepest(&plan.sheet(), &plan.root, 10, LARGEST_LEAVES);

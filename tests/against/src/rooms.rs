@@ -37,25 +37,27 @@ pub fn room(random: &mut Random) -> Plan {
     drawn(random, root, label, shape)
 }
 
-/// The largest maps, by turns: of a solid that is gray all over a half of the root, and of one that is gray
-/// all over a sphere.
+/// The largest maps, by turns: of solids that are gray in a half of the root, all over a sphere, and
+/// everywhere.
 pub fn largest(turn: u64, random: &mut Random) -> Plan {
     let root = plan::root(random, 12);
-    let shape: Shape = if turn.is_multiple_of(2) {
-        gray_half
-    } else {
-        gray_sphere
-    };
+    let shapes: [Shape; 3] = [gray_half, gray_sphere, gray];
+    let shape = shapes[(turn % 3) as usize];
     drawn(random, root, "room: of the largest maps", shape)
 }
 
 /// The bounds of x - x hold 0 in every cube, and a face joined with itself is gray.
+fn gray(drawing: &mut Drawing) -> usize {
+    let x = drawing.maker.axis(0);
+    let vague = drawing.maker.at_most(x, x);
+    drawing.maker.add(Either(vague, vague))
+}
+
 fn gray_half(drawing: &mut Drawing) -> usize {
     let middle = i64::from(drawing.root.low[0]) + (1 << drawing.root.k) / 2;
     let (x, middle) = (drawing.maker.axis(0), drawing.maker.constant(middle));
     let half = drawing.maker.at_most(x, middle);
-    let vague = drawing.maker.at_most(x, x);
-    let gray = drawing.maker.add(Either(vague, vague));
+    let gray = gray(drawing);
     drawing.maker.add(Both(gray, half))
 }
 

@@ -88,16 +88,17 @@ fn drawn(random: &mut Random, root: Root, label: &'static str, shape: Shape) -> 
 }
 
 impl Drawing<'_> {
-    /// A size up to the root's side.
+    /// A size up to the root's side, more often a small one.
     fn size(&mut self) -> i64 {
-        self.random.between(1, 1 << self.root.k)
+        let most = self.random.between(1, 1 << self.root.k);
+        self.random.between(1, most)
     }
 
     /// A coordinate in the root or near it.
     fn along(&mut self, axis: usize) -> i64 {
         let side = 1i64 << self.root.k;
         let low = i64::from(self.root.low[axis]);
-        low + self.random.between(-side / 4, side + side / 4)
+        low + self.random.between(-side / 8, side)
     }
 
     fn centre(&mut self) -> [i64; 3] {

@@ -10,6 +10,7 @@ use mir.Syntax.{w32, w64}
 use mir.Val.{SFits, toZ, ofZ}
 use mir.Facts.{toZ-ofZ}
 use Rattle.integers.proofs.Naturals.{abs-+}
+use Rattle.integers.proofs.Machine.{wide-back}
 use Rattle.interval.specs.declared.Interval.{Interval}
 use Rattle.interval.specs.declared.Bounded.{Bounded}
 use Rattle.interval.specs.declared.Bounded.the-variants.{Within}
@@ -26,7 +27,6 @@ use Rattle.colour.specs.declared.State.the-variants.{Mixed}
 use Rattle.colour.specs.Bounds.{across, none, boundsOf}
 use Rattle.colour.specs.States.{stateBy, faceState, bothOf, eitherOf, complementOf, stateOf}
 use Rattle.colour.specs.Held.{Held, heldAt}
-use Rattle.colour.proofs.Coordinates.{wide-back}
 
 -- an interval whose ends are within the limit passes it
 within : (i : Interval) → SmallEnds i → Within i ≡ boundedOf i

@@ -9,23 +9,12 @@ use mir.Syntax.{w32, w64}
 use mir.Val.{SFits, toZ, ofZ}
 use mir.Facts.{toZ-ofZ, toZ-pos}
 use Rattle.integers.proofs.Naturals.{abs-+}
-use Rattle.integers.proofs.Machine.{fits, back}
+use Rattle.integers.proofs.Machine.{fits, back, wide-back}
 use Rattle.interval.specs.declared.Interval.{Interval}
 use Rattle.interval.specs.Rules.{from}
 use Rattle.colour.specs.declared.State.the-variants.{In, Out, Single}
 use Rattle.colour.specs.Bounds.{across}
 use Rattle.colour.specs.States.{faceState}
-
--- a number of 32 bits has room in 64
-wider : (z : ℤ) → SFits w32 z → SFits w64 z
-wider z f = record { sfits = omega (arith, f .sfits) }
-
-module _ (z : ℤ) (f : SFits w32 z) where
-  pub wide-fits : SFits w64 (toZ w32 (ofZ w32 z))
-  wide-fits = rw (toZ-ofZ f) (wider z f)
-
-  pub wide-back : toZ w64 (ofZ w64 (toZ w32 (ofZ w32 z))) ≡ z
-  wide-back = rw (toZ-ofZ f) (toZ-ofZ (wider z f))
 
 module _ (low : ℤ) (side : ℕ) (f : SFits w32 low) (h : natAbs low + side ≤ 2 ^ 21) where
   sum : toZ w64 (ofZ w64 (toZ w32 (ofZ w32 low))) +ℤ toZ w64 side ≡ low +ℤ pos side

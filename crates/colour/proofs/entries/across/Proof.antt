@@ -1,5 +1,6 @@
 -- `colour::entries::across` meets its contract: a coordinate and a side are far from what 64 bits hold. Assumes nothing.
-use Rattle.colour.proofs.Coordinates.{wide-fits, high-fits, across-is}
+use Rattle.integers.proofs.Machine.{wide-fits}
+use Rattle.colour.proofs.Coordinates.{high-fits, across-is}
 use borrow.Author.Needs.{needs}
 use Rattle.colour.proofs.entries.across.Statement.{statement}
 use Rattle.colour.proofs.entries.across.Tie as tie

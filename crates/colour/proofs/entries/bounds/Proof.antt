@@ -1,5 +1,5 @@
 -- `colour::entries::bounds` meets its contract: each kind has its own rule. Assumes nothing.
-use Rattle.colour.proofs.Coordinates.{wide-fits}
+use Rattle.integers.proofs.Machine.{wide-fits}
 use Rattle.colour.proofs.Arms.{held-small, constant-arm, x-arm, y-arm, z-arm, sum-arm, difference-arm, product-arm, square-arm, no-face-arm, no-both-arm, no-either-arm, no-complement-arm}
 use borrow.Author.Needs.{needs}
 use Rattle.colour.proofs.entries.bounds.Statement.{statement}

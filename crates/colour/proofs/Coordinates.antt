@@ -6,29 +6,19 @@ use native.Mathlib.Omega.{arith}
 use lib.IntN.{ℤ, pos, natAbs, _+ℤ_}
 use lib.Signed.{mag, leZ, ltZ}
 use mir.Syntax.{w32, w64}
-use mir.Val.{SFits, toZ, ofZ}
+use mir.Val.{Fits, SFits, toZ, ofZ}
 use mir.Facts.{toZ-ofZ, toZ-pos}
-use Rattle.integers.proofs.Naturals.{abs-+}
-use Rattle.integers.proofs.Machine.{fits, back, wide-back}
+use Rattle.integers.proofs.Machine.{wideSum, wide-back, wide-sum-back}
 use Rattle.interval.specs.declared.Interval.{Interval}
 use Rattle.interval.specs.Rules.{from}
 use Rattle.colour.specs.declared.State.the-variants.{In, Out, Single}
 use Rattle.colour.specs.Bounds.{across}
 use Rattle.colour.specs.States.{faceState}
 
-module _ (low : ℤ) (side : ℕ) (f : SFits w32 low) (h : natAbs low + side ≤ 2 ^ 21) where
-  sum : toZ w64 (ofZ w64 (toZ w32 (ofZ w32 low))) +ℤ toZ w64 side ≡ low +ℤ pos side
-  sum = rw (wide-back low f, toZ-pos w64 {n = side} (omega arith))
-
-  plain : natAbs (low +ℤ pos side) < 2 ^ 63
-  plain = omega (arith, abs-+ low (pos side))
-
-  pub high-fits : SFits w64 (toZ w64 (ofZ w64 (toZ w32 (ofZ w32 low))) +ℤ toZ w64 side)
-  high-fits = rw sum (fits w64 _ plain)
-
-  pub across-is : from (toZ w64 (ofZ w64 (toZ w32 (ofZ w32 low)))) (toZ w64 (ofZ w64 (toZ w64 (ofZ w64 (toZ w32 (ofZ w32 low))) +ℤ toZ w64 side))) ≡ across low side
-  unfolding across
-  across-is = rw (sum, wide-back low f, back w64 (low +ℤ pos side) plain)
+pub across-is : (low : ℤ) (side : ℕ) → SFits w32 low → Fits w32 side →
+    from (toZ w64 (ofZ w64 (toZ w32 (ofZ w32 low)))) (toZ w64 (ofZ w64 (wideSum low side))) ≡ across low side
+unfolding across
+across-is low side f g = rw (wide-sum-back low f side g, wide-back low f)
 
 -- ---- a face's tests
 module _ (i : Interval) (f : ℕ) (hh : mag (i .high) < 2 ^ 63) where

@@ -12,7 +12,7 @@ use mir.Syntax.{w32, w64}
 use mir.Val.{Fits, SFits, toZ, ofZ}
 use mir.Facts.{toZ-ofZ, toZ-pos}
 use Rattle.integers.proofs.Naturals.{ints, abs-+, minus-is}
-use Rattle.integers.proofs.Machine.{fits, result-fits, result-back, wide-back}
+use Rattle.integers.proofs.Machine.{fits, result-fits, result-back, wideSum, wide-back, wide-sum-back}
 use Rattle.cube.specs.declared.Root.{Root}
 use Rattle.cube.specs.declared.Cube.{Cube}
 use Rattle.cube.specs.declared.Point.{Point}
@@ -21,38 +21,21 @@ use Rattle.cube.specs.Points.{axisHolds, holdsPoint}
 use Rattle.cube.proofs.Limits.{sizes-are}
 
 -- ---- axis_fits
-abs-most : (a : ℤ) → natAbs a ≤ suc (mag a)
-abs-most (pos a) = omega arith
-abs-most (negsuc a) = omega arith
-
-module _ (low : ℤ) (f : SFits w32 low) where
-  module _ (side : ℕ) (s : Fits w32 side) where
-    sum-fits : SFits w64 (low +ℤ pos side)
-    sum-fits = fits w64 (low +ℤ pos side) (omega (arith, f .sfits, s .fits, abs-most low, abs-+ low (pos side)))
-
-    abbrev Sum : ℤ
-    Sum = toZ w64 (ofZ w64 (toZ w32 (ofZ w32 low))) +ℤ toZ w64 side
-
-    sum-is : Sum ≡ low +ℤ pos side
-    sum-is = rw (wide-back low f, toZ-pos w64 {n = side} (omega (arith, s .fits)))
-
-    pub plane-fits : SFits w64 Sum
-    plane-fits = rw sum-is sum-fits
-
-    pub plane-high : leZ (negsuc 1048575) (toZ w32 (ofZ w32 low)) ≡ true → leZ (toZ w64 (ofZ w64 Sum)) (pos 1048576) ≡ axisFits low side
-    unfolding axisFits
-    plane-high t = rw (sum-is, toZ-ofZ sum-fits, rw (toZ-ofZ f) at t)
-
-  pub plane-low : (side : ℕ) → leZ (negsuc 1048575) (toZ w32 (ofZ w32 low)) ≡ false → leZ (negsuc 1048575) (toZ w32 (ofZ w32 low)) ≡ axisFits low side
+module _ (low : ℤ) (side : ℕ) (f : SFits w32 low) where
+  pub plane-high : Fits w32 side → leZ (negsuc 1048575) (toZ w32 (ofZ w32 low)) ≡ true → leZ (toZ w64 (ofZ w64 (wideSum low side))) (pos 1048576) ≡ axisFits low side
   unfolding axisFits
-  plane-low side t = t ∙ rw (rw (toZ-ofZ f) at t)
+  plane-high s t = rw (wide-sum-back low f side s, rw (toZ-ofZ f) at t)
+
+  pub plane-low : leZ (negsuc 1048575) (toZ w32 (ofZ w32 low)) ≡ false → leZ (negsuc 1048575) (toZ w32 (ofZ w32 low)) ≡ axisFits low side
+  unfolding axisFits
+  plane-low t = t ∙ rw (rw (toZ-ofZ f) at t)
 
 -- ---- axis_holds
 module _ (low v : ℤ) (side : ℕ) (f : SFits w32 low) (g : SFits w32 v) where
-  pub held-high : (s : Fits w32 side) → leZ (toZ w32 (ofZ w32 low)) (toZ w32 (ofZ w32 v)) ≡ true →
-      ltZ (toZ w64 (ofZ w64 (toZ w32 (ofZ w32 v)))) (toZ w64 (ofZ w64 (Sum low f side s))) ≡ axisHolds low side v
+  pub held-high : Fits w32 side → leZ (toZ w32 (ofZ w32 low)) (toZ w32 (ofZ w32 v)) ≡ true →
+      ltZ (toZ w64 (ofZ w64 (toZ w32 (ofZ w32 v)))) (toZ w64 (ofZ w64 (wideSum low side))) ≡ axisHolds low side v
   unfolding axisHolds
-  held-high s t = rw (sum-is low f side s, toZ-ofZ (sum-fits low f side s), wide-back v g, rw (toZ-ofZ f, toZ-ofZ g) at t)
+  held-high s t = rw (wide-sum-back low f side s, wide-back v g, rw (toZ-ofZ f, toZ-ofZ g) at t)
 
   pub held-low : leZ (toZ w32 (ofZ w32 low)) (toZ w32 (ofZ w32 v)) ≡ false → leZ (toZ w32 (ofZ w32 low)) (toZ w32 (ofZ w32 v)) ≡ axisHolds low side v
   unfolding axisHolds

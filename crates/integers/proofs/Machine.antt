@@ -1,17 +1,22 @@
 -- What the machine does with signed numbers of any width. A local holds bits, so each operand is read back from its bits, `toZ w (ofZ w a)`, and so is each result:
 -- a number that fits is what it was. Assumes nothing.
 use mathlib.Core.Path.{_≡_, _∙_}
-use Prim.Native.Nat.{_≤_, _<_, _^_}
+use Prim.Native.Nat.{ℕ, suc, _≤_, _<_, _^_}
 use native.Mathlib.Omega.{arith}
-use lib.IntN.{ℤ, pos, negsuc, natAbs}
+use lib.IntN.{ℤ, pos, negsuc, natAbs, _+ℤ_}
 use lib.Signed.{mag}
 use mir.Syntax.{Width, w32, w64}
-use mir.Val.{SFits, hbits, toZ, ofZ}
-use mir.Facts.{toZ-ofZ, sfits-widen}
+use mir.Val.{Fits, SFits, hbits, toZ, ofZ}
+use mir.Facts.{toZ-ofZ, toZ-pos, sfits-widen}
+use Rattle.integers.proofs.Naturals.{abs-+}
 
 mag-le : (a : ℤ) → mag a ≤ natAbs a
 mag-le (pos a) = omega arith
 mag-le (negsuc a) = omega arith
+
+abs-most : (a : ℤ) → natAbs a ≤ suc (mag a)
+abs-most (pos a) = omega arith
+abs-most (negsuc a) = omega arith
 
 module _ (w : Width) where
   pub fits : (a : ℤ) → natAbs a < 2 ^ hbits w → SFits w a
@@ -32,7 +37,11 @@ module _ (w : Width) where
     pub result-back : toZ w (ofZ w (f (toZ w (ofZ w a)) (toZ w (ofZ w b)))) ≡ f a b
     result-back = rw (toZ-ofZ fa, toZ-ofZ fb) (toZ-ofZ fr)
 
--- a number of 32 bits, cast to 64
+-- ---- a number of 32 bits, cast to 64
+-- one without a sign, added to it there
+abbrev pub wideSum : ℤ → ℕ → ℤ
+wideSum a n = toZ w64 (ofZ w64 (toZ w32 (ofZ w32 a))) +ℤ toZ w64 n
+
 module _ (a : ℤ) (f : SFits w32 a) where
   wider : SFits w64 a
   wider = sfits-widen {w = w32} {w′ = w64} tt f
@@ -42,3 +51,16 @@ module _ (a : ℤ) (f : SFits w32 a) where
 
   pub wide-back : toZ w64 (ofZ w64 (toZ w32 (ofZ w32 a))) ≡ a
   wide-back = rw (toZ-ofZ f) (toZ-ofZ wider)
+
+  module _ (n : ℕ) (g : Fits w32 n) where
+    sum-is : wideSum a n ≡ a +ℤ pos n
+    sum-is = rw (wide-back, toZ-pos w64 {n = n} (omega (arith, g .fits)))
+
+    sum-small : SFits w64 (a +ℤ pos n)
+    sum-small = fits w64 (a +ℤ pos n) (omega (arith, f .sfits, g .fits, abs-most a, abs-+ a (pos n)))
+
+    pub wide-sum-fits : SFits w64 (wideSum a n)
+    wide-sum-fits = rw sum-is sum-small
+
+    pub wide-sum-back : toZ w64 (ofZ w64 (wideSum a n)) ≡ a +ℤ pos n
+    wide-sum-back = rw sum-is (toZ-ofZ sum-small)

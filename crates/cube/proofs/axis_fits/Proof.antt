@@ -1,6 +1,6 @@
 -- `cube::axis_fits` meets its contract: the high plane is added in 64 bits. Assumes nothing.
-use Rattle.integers.proofs.Machine.{wide-fits}
-use Rattle.cube.proofs.Planes.{plane-fits, plane-high, plane-low}
+use Rattle.integers.proofs.Machine.{wide-fits, wide-sum-fits}
+use Rattle.cube.proofs.Planes.{plane-high, plane-low}
 use borrow.Author.Needs.{needs}
 use Rattle.cube.proofs.axis_fits.Statement.{statement}
 use Rattle.cube.proofs.axis_fits.Tie as tie
@@ -12,7 +12,7 @@ cast-result-2 : tie.Need-cast-result-2
 cast-result-2 c = search needs
 
 add-result : tie.Need-add-result
-add-result c = search (needs, plane-fits)
+add-result c = search (needs, wide-sum-fits)
 
 returns : tie.Need-returns
 returns c = search (needs, plane-high)

@@ -1,6 +1,6 @@
 -- `cube::points::axis_holds` meets its contract: the high plane is added in 64 bits. Assumes nothing.
-use Rattle.integers.proofs.Machine.{wide-fits}
-use Rattle.cube.proofs.Planes.{plane-fits, held-high, held-low}
+use Rattle.integers.proofs.Machine.{wide-fits, wide-sum-fits}
+use Rattle.cube.proofs.Planes.{held-high, held-low}
 use borrow.Author.Needs.{needs}
 use Rattle.cube.proofs.points.axis_holds.Statement.{statement}
 use Rattle.cube.proofs.points.axis_holds.Tie as tie
@@ -15,7 +15,7 @@ cast-result-3 : tie.Need-cast-result-3
 cast-result-3 c = search needs
 
 add-result : tie.Need-add-result
-add-result c = search (needs, plane-fits)
+add-result c = search (needs, wide-sum-fits)
 
 returns : tie.Need-returns
 returns c = search (needs, held-high)

@@ -1,14 +1,17 @@
 -- What the machine does with signed numbers of any width. A local holds bits, so each operand is read back from its bits, `toZ w (ofZ w a)`, and so is each result:
 -- a number that fits is what it was. Assumes nothing.
 use mathlib.Core.Path.{_≡_, _∙_}
+use mathlib.Core.Bool.{false}
 use Prim.Native.Nat.{ℕ, suc, _≤_, _<_, _^_}
 use native.Mathlib.Omega.{arith}
+use lib.Dec.{T}
 use lib.IntN.{ℤ, pos, negsuc, natAbs, _+ℤ_}
-use lib.Signed.{mag}
+use lib.Signed.{mag, ltZ, nonNeg}
 use mir.Syntax.{Width, w32, w64}
 use mir.Val.{Fits, SFits, hbits, toZ, ofZ}
 use mir.Facts.{toZ-ofZ, toZ-pos, sfits-widen}
 use Rattle.integers.proofs.Naturals.{abs-+}
+use Rattle.integers.proofs.Order.{not-negative}
 
 mag-le : (a : ℤ) → mag a ≤ natAbs a
 mag-le (pos a) = omega arith
@@ -36,6 +39,10 @@ module _ (w : Width) where
 
     pub result-back : toZ w (ofZ w (f (toZ w (ofZ w a)) (toZ w (ofZ w b)))) ≡ f a b
     result-back = rw (toZ-ofZ fa, toZ-ofZ fb) (toZ-ofZ fr)
+
+-- a number from 0 on, cast to one without a sign
+pub plain-cast : (a : ℤ) → SFits w64 a → ltZ (toZ w64 (ofZ w64 a)) (pos 0) ≡ false → T (nonNeg (toZ w64 (ofZ w64 a))) × Fits w64 (natAbs (toZ w64 (ofZ w64 a)))
+plain-cast a f t = rw (toZ-ofZ f) (not-negative a (rw (toZ-ofZ f) at t), record { fits = omega (arith, f .sfits, abs-most a) })
 
 -- ---- a number of 32 bits, cast to 64
 -- one without a sign, added to it there

@@ -11,7 +11,7 @@ use lib.Signed.{ltZ, nonNeg}
 use mir.Syntax.{w64}
 use mir.Val.{SFits, Fits, toZ, ofZ}
 use Rattle.integers.proofs.Naturals.{abs-*, abs-neg}
-use Rattle.integers.proofs.Order.{by-test, negative, not-negative}
+use Rattle.integers.proofs.Order.{by-test, negative}
 use Rattle.integers.proofs.Machine.{fits, result-fits, result-back}
 use Rattle.interval.specs.Limit.{isSmall, clampOf}
 use Rattle.interval.proofs.Limit.{small-true, small-false, limit-fits, limit-back, difference-fits, difference-back, clamp-same}
@@ -30,9 +30,6 @@ module _ (a : ℤ) (h : natAbs a ≤ 2 ^ 60) where
 
   pub negated-is : natAbs (toZ w64 (ofZ w64 (pos 0 -ℤ toZ w64 (ofZ w64 a)))) ≡ natAbs a
   negated-is = rw negated-back (abs-neg a)
-
-  pub plain-cast : ltZ (toZ w64 (ofZ w64 a)) (pos 0) ≡ false → T (nonNeg (toZ w64 (ofZ w64 a))) × Fits w64 (natAbs (toZ w64 (ofZ w64 a)))
-  plain-cast t = rw (limit-back a h) (not-negative a (rw (limit-back a h) at t), record { fits = omega arith })
 
 -- ---- is_small_product
 module _ (m n : ℕ) where

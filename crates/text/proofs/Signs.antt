@@ -12,7 +12,7 @@ use lib.Signed.{ltZ, nonNeg}
 use mir.Syntax.{w64}
 use mir.Val.{Fits, SFits, toZ, ofZ}
 use mir.Facts.{toZ-ofZ}
-use Rattle.integers.proofs.Order.{not-negative}
+use Rattle.integers.proofs.Machine.{plain-cast}
 use Rattle.text.specs.Text.{decimalOf, signedText}
 use Rattle.text.proofs.Digits.{decimal-length}
 
@@ -21,20 +21,13 @@ small (pos k) g = omega (arith, g .sfits)
 small (negsuc k) g = omega (arith, g .sfits)
 
 -- ---- a number from 0 on
-plain : (n : ℤ) → SFits w64 n → ltZ n (pos 0) ≡ false → T (nonNeg n) × Fits w64 (natAbs n)
-plain n f t = (not-negative n t, record { fits = omega (arith, small n f) })
-
 no-sign : (n : ℤ) → ltZ n (pos 0) ≡ false → signedText n ≡ decimalOf (natAbs n)
 unfolding signedText
 no-sign (pos k) t = refl
 no-sign (negsuc k) t = absurd (true≢false t)
 
-module _ (n : ℤ) (f : SFits w64 n) (t : ltZ (toZ w64 (ofZ w64 n)) (pos 0) ≡ false) where
-  pub plain-cast : T (nonNeg (toZ w64 (ofZ w64 n))) × Fits w64 (natAbs (toZ w64 (ofZ w64 n)))
-  plain-cast = rw (toZ-ofZ f) (plain n f (rw (toZ-ofZ f) at t))
-
-  pub plain-text : signedText n ≡ decimalOf (natAbs (toZ w64 (ofZ w64 n)))
-  plain-text = rw (toZ-ofZ f) (no-sign n (rw (toZ-ofZ f) at t))
+pub plain-text : (n : ℤ) → SFits w64 n → ltZ (toZ w64 (ofZ w64 n)) (pos 0) ≡ false → signedText n ≡ decimalOf (natAbs (toZ w64 (ofZ w64 n)))
+plain-text n f t = rw (toZ-ofZ f) (no-sign n (rw (toZ-ofZ f) at t))
 
 -- ---- a number below 0: -1 - n is the magnitude less one
 -- -1 - n, as the machine works it out
@@ -66,7 +59,7 @@ module _ (n : ℤ) (f : SFits w64 n) (t : ltZ (toZ w64 (ofZ w64 n)) (pos 0) ≡ 
   less-fits = rw (toZ-ofZ f) (less .fits)
 
   pub less-cast : T (nonNeg (lessOne n)) × Fits w64 (natAbs (lessOne n))
-  less-cast = rw (toZ-ofZ f, toZ-ofZ (less .fits)) (plain (negsuc 0 -ℤ n) (less .fits) (less .above))
+  less-cast = rw (toZ-ofZ f) (plain-cast (negsuc 0 -ℤ n) (less .fits) (rw (toZ-ofZ (less .fits)) (less .above)))
 
   pub more-fits : Fits w64 (natAbs (lessOne n) + 1)
   more-fits = rw (toZ-ofZ f, toZ-ofZ (less .fits)) (record { fits = omega (arith, small (negsuc 0 -ℤ n) (less .fits)) })

@@ -1,6 +1,7 @@
 -- `interval::magnitude` meets its contract. Assumes nothing.
 use borrow.Author.Needs.{needs}
-use Rattle.interval.proofs.Products.{negated-fits, negated-cast, negated-is, plain-cast}
+use Rattle.integers.proofs.Machine.{plain-cast}
+use Rattle.interval.proofs.Products.{negated-fits, negated-cast, negated-is}
 use Rattle.interval.proofs.magnitude.Statement.{statement}
 use Rattle.interval.proofs.magnitude.Tie as tie
 

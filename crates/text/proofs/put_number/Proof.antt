@@ -2,7 +2,8 @@
 use lib.ListN.{length-set}
 use mathlib.Core.Path.{_∙_}
 use native.Mathlib.Omega.{arith}
-use Rattle.text.proofs.Signs.{plain-cast, less-fits, less-cast, more-fits}
+use Rattle.integers.proofs.Machine.{plain-cast}
+use Rattle.text.proofs.Signs.{less-fits, less-cast, more-fits}
 use Rattle.text.proofs.Storing.{plain-room, plain-put, sign-room, sign-put}
 use Rattle.text.proofs.put_number.Statement.{statement}
 use Rattle.text.proofs.put_number.Tie as tie

@@ -3,14 +3,14 @@ use mathlib.Core.Path.{_≡_, sym}
 use mathlib.Core.List.{List}
 use Prim.Native.Nat.{ℕ, _+_, _≤_, _<_, _^_}
 use native.Mathlib.Omega.{arith}
-use lib.IntN.{ℤ, pos, negsuc, natAbs}
+use lib.IntN.{ℤ, pos, natAbs}
 use lib.ListN.{getD}
 use lib.Signed.{mag}
 use mir.Syntax.{w32, w64}
 use mir.Val.{SFits, toZ, ofZ}
 use mir.Facts.{toZ-ofZ}
 use Rattle.integers.proofs.Naturals.{abs-+}
-use Rattle.integers.proofs.Machine.{wide-back}
+use Rattle.integers.proofs.Machine.{abs-most, wide-back}
 use Rattle.interval.specs.declared.Interval.{Interval}
 use Rattle.interval.specs.declared.Bounded.{Bounded}
 use Rattle.interval.specs.declared.Bounded.the-variants.{Within}
@@ -35,11 +35,6 @@ within i s = sym (bounded-within i (ends-within i s))
 pub zero-small : SmallEnds none
 zero-small = record { low = omega arith; high = omega arith }
 
--- a number of 32 bits
-small : (z : ℤ) → SFits w32 z → natAbs z ≤ 2 ^ 60
-small (pos n) f = omega (arith, f .sfits)
-small (negsuc n) f = omega (arith, f .sfits)
-
 across-small : (low : ℤ) (side : ℕ) → natAbs low + side ≤ 2 ^ 21 → SmallEnds (across low side)
 unfolding across
 across-small low side h = record { low = omega arith; high = omega (arith, abs-+ low (pos side)) }
@@ -56,7 +51,9 @@ module _ (low high : List ℤ) where
 
     pub constant-arm : (c : ℤ) → r ≡ Constant c → SFits w32 c → Within (only (toZ w64 (ofZ w64 (toZ w32 (ofZ w32 c))))) ≡ asked
     unfolding boundsOf
-    constant-arm c e f = rw (e, wide-back c f) (within (only c) (record { low = small c f; high = small c f }))
+    constant-arm c e f =
+        let h : natAbs c ≤ 2 ^ 60 = omega (arith, f .sfits, abs-most c) in
+        rw (e, wide-back c f) (within (only c) (record { low = h; high = h }))
 
     pub x-arm : (v : Interval) → r ≡ X → Near 0 q → mag (q .x) < 2 ^ 31 → v ≡ across (toZ w32 (ofZ w32 (q .x))) (q .side) → Within v ≡ asked
     unfolding boundsOf

@@ -17,7 +17,7 @@ mag-le : (a : ℤ) → mag a ≤ natAbs a
 mag-le (pos a) = omega arith
 mag-le (negsuc a) = omega arith
 
-abs-most : (a : ℤ) → natAbs a ≤ suc (mag a)
+pub abs-most : (a : ℤ) → natAbs a ≤ suc (mag a)
 abs-most (pos a) = omega arith
 abs-most (negsuc a) = omega arith
 

@@ -12,13 +12,9 @@ use lib.Signed.{ltZ, nonNeg}
 use mir.Syntax.{w64}
 use mir.Val.{Fits, SFits, toZ, ofZ}
 use mir.Facts.{toZ-ofZ}
-use Rattle.integers.proofs.Machine.{plain-cast}
+use Rattle.integers.proofs.Machine.{abs-most, plain-cast}
 use Rattle.text.specs.Text.{decimalOf, signedText}
 use Rattle.text.proofs.Digits.{decimal-length}
-
-small : (m : ℤ) → SFits w64 m → natAbs m ≤ 2 ^ 63
-small (pos k) g = omega (arith, g .sfits)
-small (negsuc k) g = omega (arith, g .sfits)
 
 -- ---- a number from 0 on
 no-sign : (n : ℤ) → ltZ n (pos 0) ≡ false → signedText n ≡ decimalOf (natAbs n)
@@ -62,7 +58,7 @@ module _ (n : ℤ) (f : SFits w64 n) (t : ltZ (toZ w64 (ofZ w64 n)) (pos 0) ≡ 
   less-cast = rw (toZ-ofZ f) (plain-cast (negsuc 0 -ℤ n) (less .fits) (rw (toZ-ofZ (less .fits)) (less .above)))
 
   pub more-fits : Fits w64 (natAbs (lessOne n) + 1)
-  more-fits = rw (toZ-ofZ f, toZ-ofZ (less .fits)) (record { fits = omega (arith, small (negsuc 0 -ℤ n) (less .fits)) })
+  more-fits = rw (toZ-ofZ f, toZ-ofZ (less .fits)) (record { fits = omega (arith, less .fits .sfits, abs-most (negsuc 0 -ℤ n)) })
 
   pub less-text : signedText n ≡ 45 ∷ decimalOf (natAbs (lessOne n) + 1)
   less-text = rw (toZ-ofZ f, toZ-ofZ (less .fits)) (less .text)

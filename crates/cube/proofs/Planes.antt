@@ -1,13 +1,13 @@
 -- The needs of `axis_fits`, `axis_holds`, `sizes_fit`, `is_within`, `holds`, `power`, `moved` and `steps_to`, each as it stands: the machine reads a number back from its bits. Assumes nothing.
 use mathlib.Core.Path.{_≡_, sym, _∙_}
 use mathlib.Core.Bool.{Bool, true, false}
-use Prim.Native.Nat.{ℕ, suc, _+_, _*_, _/_, _%_, _≤_, _<_, _^_}
+use Prim.Native.Nat.{ℕ, _+_, _*_, _/_, _%_, _≤_, _<_, _^_}
 use native.Mathlib.Omega.{arith}
 use borrow.Author.Tests.{le-leb, lt-leb}
 use lib.Dec.{T, leb}
 use lib.Pow.{pow-mono}
 use lib.IntN.{ℤ, pos, negsuc, natAbs, _+ℤ_, _-ℤ_}
-use lib.Signed.{mag, leZ, ltZ, nonNeg, yes-nonNeg, _≤ℤ_}
+use lib.Signed.{leZ, ltZ, nonNeg, yes-nonNeg, _≤ℤ_}
 use mir.Syntax.{w32, w64}
 use mir.Val.{Fits, SFits, toZ, ofZ}
 use mir.Facts.{toZ-ofZ, toZ-pos}

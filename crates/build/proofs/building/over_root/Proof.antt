@@ -1,6 +1,6 @@
 -- `build::building::over_root` meets its contract: the limits of the root, then the limit of the bounds over it. Assumes nothing.
 use native.Mathlib.Omega.{arith}
-use mathlib.Core.Path.{refl, sym, _∙_}
+use mathlib.Core.Path.{sym, _∙_}
 use borrow.Author.Tests.{not-true, not-false}
 use Rattle.cube.proofs.Limits.{limits-sizes}
 use Rattle.cube.proofs.Cubes.{root-near, near-fewer}

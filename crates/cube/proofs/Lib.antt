@@ -3,4 +3,5 @@ pub mod Planes
 pub mod Corners
 pub mod Cubes
 pub mod Places
+pub mod AtPlace
 pub mod Rows

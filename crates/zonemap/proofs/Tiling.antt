@@ -11,7 +11,8 @@ use Rattle.cube.specs.declared.Root.{Root}
 use Rattle.cube.specs.Limits.{inLimits}
 use Rattle.cube.specs.Cubes.{rootCube, cubeAt}
 use Rattle.cube.specs.Points.{holdsPoint, placeOf}
-use Rattle.cube.proofs.Places.{place-below, placed-holds, holds-placed}
+use Rattle.cube.proofs.Places.{place-below}
+use Rattle.cube.proofs.AtPlace.{placed-holds, holds-placed}
 use Rattle.zonemap.specs.declared.Leaf.{Leaf}
 use Rattle.zonemap.specs.Opening.{rootOf, leavesOf, sizeOf, faultOf, leafAt}
 use Rattle.zonemap.specs.Leaves.{placeAt, nowhere, Holds}

@@ -39,53 +39,37 @@ fn records(s: &[u8]) {
 // A record's kind and what follows it.
 fn record(r: sheet::Record) {
     match r {
-        sheet::Record::Constant(c) => {
-            let _kind = io::write_all(1, b" constant");
-            whole(c);
-        }
-        sheet::Record::X => {
-            let _kind = io::write_all(1, b" x");
-        }
-        sheet::Record::Y => {
-            let _kind = io::write_all(1, b" y");
-        }
-        sheet::Record::Z => {
-            let _kind = io::write_all(1, b" z");
-        }
-        sheet::Record::Sum(a, b) => {
-            operands(b" sum", a, b);
-        }
-        sheet::Record::Difference(a, b) => {
-            operands(b" difference", a, b);
-        }
-        sheet::Record::Product(a, b) => {
-            operands(b" product", a, b);
-        }
-        sheet::Record::Square(a) => {
-            operand(b" square", a);
-        }
-        sheet::Record::Face(a) => {
-            operand(b" face", a);
-        }
-        sheet::Record::Both(p, q) => {
-            operands(b" both", p, q);
-        }
-        sheet::Record::Either(p, q) => {
-            operands(b" either", p, q);
-        }
-        sheet::Record::Complement(p) => {
-            operand(b" complement", p);
-        }
+        sheet::Record::Constant(c) => constant(c),
+        sheet::Record::X => kind(b" x"),
+        sheet::Record::Y => kind(b" y"),
+        sheet::Record::Z => kind(b" z"),
+        sheet::Record::Sum(a, b) => operands(b" sum", a, b),
+        sheet::Record::Difference(a, b) => operands(b" difference", a, b),
+        sheet::Record::Product(a, b) => operands(b" product", a, b),
+        sheet::Record::Square(a) => operand(b" square", a),
+        sheet::Record::Face(a) => operand(b" face", a),
+        sheet::Record::Both(p, q) => operands(b" both", p, q),
+        sheet::Record::Either(p, q) => operands(b" either", p, q),
+        sheet::Record::Complement(p) => operand(b" complement", p),
     }
 }
 
-fn operand(kind: &[u8], a: u8) {
-    let _kind = io::write_all(1, kind);
+fn kind(name: &[u8]) {
+    let _name = io::write_all(1, name);
+}
+
+fn constant(c: i32) {
+    kind(b" constant");
+    whole(c);
+}
+
+fn operand(name: &[u8], a: u8) {
+    kind(name);
     number(a as u64);
 }
 
-fn operands(kind: &[u8], a: u8, b: u8) {
-    operand(kind, a);
+fn operands(name: &[u8], a: u8, b: u8) {
+    operand(name, a);
     number(b as u64);
 }
 

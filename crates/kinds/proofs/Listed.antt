@@ -62,9 +62,6 @@ module _ (s offsets : List ℕ) (at n : ℕ) (w : Listing s offsets at n) where
     pub listing-stands : Stands s at
     listing-stands = rw (w .here) (stands-there s n more)
 
-    pub listing-room : n < 256
-    listing-room = omega (arith, records-few s)
-
     pub listing-next : Listing s (set offsets n at) (at + 1 + getD s at 0) (n + 1)
     listing-next =
         record {
@@ -73,7 +70,7 @@ module _ (s offsets : List ℕ) (at n : ℕ) (w : Listing s offsets at n) where
           long = length-set offsets n at ∙ w .long;
           each = λ i h.
               by-test (eqb i n)
-              (λ t. rw (eqb-true i n t) (getD-set-same offsets n at 0 (omega (arith, w .long, listing-room)) ∙ w .here))
+              (λ t. rw (eqb-true i n t) (getD-set-same offsets n at 0 (omega (arith, w .long, records-few s)) ∙ w .here))
               (λ t. getD-set-other offsets n i at 0 (eqb-false i n t) ∙ w .each i (omega (arith, eqb-false i n t)));
         }
 

@@ -10,7 +10,8 @@ use Rattle.sheet.specs.declared.Record.the-variants.{X}
 use Rattle.sheet.specs.declared.Row.the-variants.{Known}
 use Rattle.sheet.specs.Table.{rowAt}
 use Rattle.sheet.specs.Records.{recordsOf}
-use Rattle.sheet.proofs.Walk.{Before, before-first, before-next, stands-few, stands-taken}
+use Rattle.sheet.proofs.Walk.{Before, before-first, before-next, stands-taken}
+use Rattle.sheet.proofs.Good.{records-few}
 use Rattle.sheet.proofs.Arrays.{Reads, reads-more, filled-with}
 use Rattle.kinds.specs.Faces.{markOf, Marks}
 
@@ -35,5 +36,5 @@ module _ (s marks : List ℕ) (at n : ℕ) (w : Marking s marks at n) where
           long = length-set marks n m ∙ w .long;
           reads =
               rw (stands-taken s at n (w .walk) more r row X)
-              (reads-more markOf X r m marks (take n (recordsOf s)) n (omega (arith, length-take n (recordsOf s))) (omega (arith, stands-few s at n (w .walk) more r row, w .long)) e (w .reads));
+              (reads-more markOf X r m marks (take n (recordsOf s)) n (omega (arith, length-take n (recordsOf s))) (omega (arith, records-few s, w .long)) e (w .reads));
         }

@@ -52,6 +52,10 @@ pub records-few : (s : List ℕ) → length (recordsOf s) ≤ 256
 unfolding reading
 records-few s = few-from 256 s 3
 
+-- so that each has a number below 256
+pub number-few : (s : List ℕ) (count n : ℕ) → count ≡ length (recordsOf s) → n < count → n < 256
+number-few s count n e h = omega (arith, records-few s)
+
 module _ (s : List ℕ) (n : ℕ) (e : checkOf s ≡ Good n) where
   sorted : sortedOf (recordsOf s) ≡ Good n
   unfolding checkOf

@@ -162,10 +162,6 @@ module _ (s : List ℕ) (at n : ℕ) (w : Before s at n) (more : n < length (rec
         let g : next ≡ record { at = at + 1 + getD s at 0; left = 256 - (n + 1) } = fitting s here-at f .1 ∙ ap (λ (l : ℕ). record { at = at + 1 + getD s at 0; left = l }) m in
         rw g at t)
 
-    -- there is room for it among 256
-    pub stands-few : n < 256
-    stands-few = omega (arith, before-next .total)
-
     -- the records up to it are those before it, and it
     pub stands-taken : (d : Record) → take (n + 1) (recordsOf s) ≡ take n (recordsOf s) ++ r ∷ []
     stands-taken d = ap (λ (k : ℕ). take k (recordsOf s)) (add-one n) ∙ take-suc (recordsOf s) n d more ∙ ap (λ (x : Record). take n (recordsOf s) ++ x ∷ []) (stands-record d)

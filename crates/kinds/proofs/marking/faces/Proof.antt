@@ -2,7 +2,8 @@
 use Prim.Native.Nat.{_-_}
 use borrow.Author.Needs.{needs}
 use native.Mathlib.Omega.{arith}
-use Rattle.sheet.proofs.Walk.{stands, stands-few}
+use Rattle.sheet.proofs.Walk.{stands}
+use Rattle.sheet.proofs.Good.{number-few}
 use Rattle.kinds.proofs.Marks.{Marking, marking-start, marking-end, marking-next}
 use Rattle.kinds.proofs.marking.faces.Statement.{statement}
 use Rattle.kinds.proofs.marking.faces.Tie as tie
@@ -40,11 +41,11 @@ mark-requires c κs = search needs
 
 array-write-marks : tie.Need-array-write-marks Inv-loop μ-loop
 array-write-marks c =
-    stands-few _ _ _ (c .before .before .before .before .loop .inv .walk) (omega (arith, c .before .before .before .loop-test .taken, c .before .before .before .before .before .before .pre)) _ (c .before .record-at .ensures)
+    number-few _ _ _ (c .before .before .before .before .before .before .pre) (c .before .before .before .loop-test .taken)
 
 add-n : tie.Need-add-n Inv-loop μ-loop
 add-n c =
-    omega (arith, stands-few _ _ _ (c .before .before .before .before .loop .inv .walk) (omega (arith, c .before .before .before .loop-test .taken, c .before .before .before .before .before .before .pre)) _ (c .before .record-at .ensures))
+    omega (arith, number-few _ _ _ (c .before .before .before .before .before .before .pre) (c .before .before .before .loop-test .taken))
 
 loop-less : tie.Need-loop-less Inv-loop μ-loop
 loop-less c = omega (arith, c .before .before .before .loop-test .taken)

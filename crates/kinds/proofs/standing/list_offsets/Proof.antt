@@ -1,7 +1,8 @@
 -- `kinds::standing::list_offsets` meets its contract. The invariant is `Listing`: the offsets of so many records are listed. Assumes nothing.
 use Prim.Native.Nat.{_-_}
 use native.Mathlib.Omega.{arith}
-use Rattle.kinds.proofs.Listed.{Listing, listing-start, listing-end, listing-low, listing-room, listing-stands, listing-next}
+use Rattle.sheet.proofs.Good.{number-few}
+use Rattle.kinds.proofs.Listed.{Listing, listing-start, listing-end, listing-low, listing-stands, listing-next}
 use Rattle.kinds.proofs.standing.list_offsets.Statement.{statement}
 use Rattle.kinds.proofs.standing.list_offsets.Tie as tie
 
@@ -33,15 +34,15 @@ cast-offsets c = omega (arith, listing-low _ _ _ _ (c .before .before .loop .inv
 
 mul-offsets : tie.Need-mul-offsets Inv-loop μ-loop
 mul-offsets c =
-    omega (arith, listing-room _ _ _ _ (c .before .before .loop .inv) (omega (arith, c .before .loop-test .taken, c .before .before .before .pre .0)))
+    omega (arith, number-few _ _ _ (c .before .before .before .pre .0) (c .before .loop-test .taken))
 
 slice-write-offsets : tie.Need-slice-write-offsets Inv-loop μ-loop
 slice-write-offsets c =
-    omega (arith, c .before .before .loop .inv .long, listing-room _ _ _ _ (c .before .before .loop .inv) (omega (arith, c .before .loop-test .taken, c .before .before .before .pre .0)))
+    omega (arith, c .before .before .loop .inv .long, number-few _ _ _ (c .before .before .before .pre .0) (c .before .loop-test .taken))
 
 add-n : tie.Need-add-n Inv-loop μ-loop
 add-n c =
-    omega (arith, listing-room _ _ _ _ (c .before .before .loop .inv) (omega (arith, c .before .loop-test .taken, c .before .before .before .pre .0)))
+    omega (arith, number-few _ _ _ (c .before .before .before .pre .0) (c .before .loop-test .taken))
 
 loop-less : tie.Need-loop-less Inv-loop μ-loop
 loop-less c = omega (arith, c .before .loop-test .taken)

@@ -116,73 +116,69 @@ module _ (s : List ℕ) (q : Cube) (b : Bounds) (classes faces : List ℕ) (w : 
       rw (p, le-ltb (length rs) (length rs) (omega arith)) (ap Known (e ∙ coloured which ∙ ap (λ (l : List Record). getD (entries q l) which blank .state) t))
 
   -- one record more: r stands there
-  module _ (more : n < length rs) where
-    pub room : n < 256
-    room = omega (arith, records-few s)
+  module _ (more : n < length rs) (at : ℕ) (there : at ≡ offsetOf s n) (r : Record) (row : rowAt s at ≡ Fits r) where
+    long : length (done s q n) ≡ n
+    long = length-along (entryOf q) (take n rs) ∙ (omega (arith, length-take n rs))
 
-    module _ (at : ℕ) (there : at ≡ offsetOf s n) (r : Record) (row : rowAt s at ≡ Fits r) where
-      long : length (done s q n) ≡ n
-      long = length-along (entryOf q) (take n rs) ∙ (omega (arith, length-take n rs))
+    -- the entry that the definition gives r
+    abbrev this : Entry
+    this = entryOf q (done s q n) r
 
-      -- the entry that the definition gives r
-      abbrev this : Entry
-      this = entryOf q (done s q n) r
+    abbrev first : ℕ
+    first = firstOf r
 
-      abbrev first : ℕ
-      first = firstOf r
+    abbrev second : ℕ
+    second = secondOf r
 
-      abbrev second : ℕ
-      second = secondOf r
+    bounds-are : boundsOf q (heldAt (b .low) (b .high) first) (heldAt (b .low) (b .high) second) r ≡ this .bounds
+    unfolding entryOf
+    bounds-are = rw (operand first, operand second)
 
-      bounds-are : boundsOf q (heldAt (b .low) (b .high) first) (heldAt (b .low) (b .high) second) r ≡ this .bounds
-      unfolding entryOf
-      bounds-are = rw (operand first, operand second)
+    state-is : stateOf n (heldAt (b .low) (b .high) first) (stated first) (stated second) r ≡ this .state
+    unfolding entryOf
+    state-is = rw (operand first, coloured first, coloured second, long)
 
-      state-is : stateOf n (heldAt (b .low) (b .high) first) (stated first) (stated second) r ≡ this .state
-      unfolding entryOf
-      state-is = rw (operand first, coloured first, coloured second, long)
+    walk : Before s at n
+    walk = rw there (before-offset s n (w .among))
 
-      walk : Before s at n
-      walk = rw there (before-offset s n (w .among))
+    grown : done s q (n + 1) ≡ done s q n ++ this ∷ []
+    grown = ap (entries q) (stands-taken s at n walk more r row X) ∙ along-more (entryOf q) (take n rs) r
 
-      grown : done s q (n + 1) ≡ done s q n ++ this ∷ []
-      grown = ap (entries q) (stands-taken s at n walk more r row X) ∙ along-more (entryOf q) (take n rs) r
+    -- all entries: those before it, its own, and those after it
+    cut : entries q rs ≡ done s q n ++ (this ∷ drop (n + 1) (entries q rs))
+    cut =
+        sym (take-append-drop (n + 1) (entries q rs))
+        ∙ ap (λ (l : List Entry). l ++ drop (n + 1) (entries q rs)) (take-along (entryOf q) rs (n + 1) (omega arith) ∙ grown)
+        ∙ append-assoc (done s q n) (this ∷ []) (drop (n + 1) (entries q rs))
 
-      -- all entries: those before it, its own, and those after it
-      cut : entries q rs ≡ done s q n ++ (this ∷ drop (n + 1) (entries q rs))
-      cut =
-          sym (take-append-drop (n + 1) (entries q rs))
-          ∙ ap (λ (l : List Entry). l ++ drop (n + 1) (entries q rs)) (take-along (entryOf q) rs (n + 1) (omega arith) ∙ grown)
-          ∙ append-assoc (done s q n) (this ∷ []) (drop (n + 1) (entries q rs))
+    module _ (got : Bounded) (eb : got ≡ boundedOf (boundsOf q (heldAt (b .low) (b .high) first) (heldAt (b .low) (b .high) second) r)) where
+      pub judged-past : (which : ℕ) → got ≡ Over → Past n ≡ judgedOf rs q which
+      unfolding judgedOf
+      judged-past which h =
+          let f : isWithin (this .bounds) ≡ false = rw bounds-are at (past-tells got (boundsOf q (heldAt (b .low) (b .high) first) (heldAt (b .low) (b .high) second) r) eb h) in
+          let p : beforePast (entries q rs) ≡ n = ap beforePast cut ∙ first-past (done s q n) this (drop (n + 1) (entries q rs)) (w .keep) f ∙ long in
+          rw (p, lt-ltb n (length rs) more)
 
-      module _ (got : Bounded) (eb : got ≡ boundedOf (boundsOf q (heldAt (b .low) (b .high) first) (heldAt (b .low) (b .high) second) r)) where
-        pub judged-past : (which : ℕ) → got ≡ Over → Past n ≡ judgedOf rs q which
-        unfolding judgedOf
-        judged-past which h =
-            let f : isWithin (this .bounds) ≡ false = rw bounds-are at (past-tells got (boundsOf q (heldAt (b .low) (b .high) first) (heldAt (b .low) (b .high) second) r) eb h) in
-            let p : beforePast (entries q rs) ≡ n = ap beforePast cut ∙ first-past (done s q n) this (drop (n + 1) (entries q rs)) (w .keep) f ∙ long in
-            rw (p, lt-ltb n (length rs) more)
+      module _ (v : Interval) (ev : got ≡ Within v) where
+        exact : v ≡ this .bounds
+        exact = within-is got (boundsOf q (heldAt (b .low) (b .high) first) (heldAt (b .low) (b .high) second) r) eb v ev ∙ bounds-are
 
-        module _ (v : Interval) (ev : got ≡ Within v) where
-          exact : v ≡ this .bounds
-          exact = within-is got (boundsOf q (heldAt (b .low) (b .high) first) (heldAt (b .low) (b .high) second) r) eb v ev ∙ bounds-are
-
-          pub filling-next : (state : State) (class face : ℕ) → state ≡ stateOf n (heldAt (b .low) (b .high) first) (stated first) (stated second) r → class ≡ classOf state → face ≡ faceOf state
-              → Filling s q (record { low = set (b .low) n (toZ w64 (ofZ w64 (v .low))); high = set (b .high) n (toZ w64 (ofZ w64 (v .high))); count = n + 1 }) (set classes n class) (set faces n face)
-          filling-next state class face h ec ef =
-              let small = within-small got (boundsOf q (heldAt (b .low) (b .high) first) (heldAt (b .low) (b .high) second) r) eb v ev in
-              let low = limit-back (v .low) (small .low) in
-              let high = limit-back (v .high) (small .high) in
-              let is = h ∙ state-is in
-              record {
-                among = omega arith;
-                low-long = length-set (b .low) n _ ∙ w .low-long;
-                high-long = length-set (b .high) n _ ∙ w .high-long;
-                classes-long = length-set classes n class ∙ w .classes-long;
-                faces-long = length-set faces n face ∙ w .faces-long;
-                lows = rw grown (reads-more (λ e. e .bounds .low) blank this _ (b .low) (done s q n) n long (omega (arith, room, w .low-long)) (low ∙ ap (λ (k : Interval). k .low) exact) (w .lows));
-                highs = rw grown (reads-more (λ e. e .bounds .high) blank this _ (b .high) (done s q n) n long (omega (arith, room, w .high-long)) (high ∙ ap (λ (k : Interval). k .high) exact) (w .highs));
-                classed = rw grown (reads-more (λ e. classOf (e .state)) blank this class classes (done s q n) n long (omega (arith, room, w .classes-long)) (ec ∙ ap classOf is) (w .classed));
-                faced = rw grown (reads-more (λ e. faceOf (e .state)) blank this face faces (done s q n) n long (omega (arith, room, w .faces-long)) (ef ∙ ap faceOf is) (w .faced));
-                keep = rw grown (keep-more (done s q n) this (w .keep) (rw exact at small));
-              }
+        pub filling-next : (state : State) (class face : ℕ) → state ≡ stateOf n (heldAt (b .low) (b .high) first) (stated first) (stated second) r → class ≡ classOf state → face ≡ faceOf state
+            → Filling s q (record { low = set (b .low) n (toZ w64 (ofZ w64 (v .low))); high = set (b .high) n (toZ w64 (ofZ w64 (v .high))); count = n + 1 }) (set classes n class) (set faces n face)
+        filling-next state class face h ec ef =
+            let small = within-small got (boundsOf q (heldAt (b .low) (b .high) first) (heldAt (b .low) (b .high) second) r) eb v ev in
+            let low = limit-back (v .low) (small .low) in
+            let high = limit-back (v .high) (small .high) in
+            let is = h ∙ state-is in
+            record {
+              among = omega arith;
+              low-long = length-set (b .low) n _ ∙ w .low-long;
+              high-long = length-set (b .high) n _ ∙ w .high-long;
+              classes-long = length-set classes n class ∙ w .classes-long;
+              faces-long = length-set faces n face ∙ w .faces-long;
+              lows = rw grown (reads-more (λ e. e .bounds .low) blank this _ (b .low) (done s q n) n long (omega (arith, records-few s, w .low-long)) (low ∙ ap (λ (k : Interval). k .low) exact) (w .lows));
+              highs = rw grown (reads-more (λ e. e .bounds .high) blank this _ (b .high) (done s q n) n long (omega (arith, records-few s, w .high-long)) (high ∙ ap (λ (k : Interval). k .high) exact) (w .highs));
+              classed = rw grown (reads-more (λ e. classOf (e .state)) blank this class classes (done s q n) n long (omega (arith, records-few s, w .classes-long)) (ec ∙ ap classOf is) (w .classed));
+              faced = rw grown (reads-more (λ e. faceOf (e .state)) blank this face faces (done s q n) n long (omega (arith, records-few s, w .faces-long)) (ef ∙ ap faceOf is) (w .faced));
+              keep = rw grown (keep-more (done s q n) this (w .keep) (rw exact at small));
+            }

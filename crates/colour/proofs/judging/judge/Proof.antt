@@ -3,7 +3,8 @@ use borrow.Author.Needs.{needs}
 use Prim.Native.Nat.{_-_}
 use native.Mathlib.Omega.{arith}
 use Rattle.kinds.proofs.Listed.{listed-stands}
-use Rattle.colour.proofs.Filling.{Filling, filling-start, held, room, judged-end, judged-past, filling-next}
+use Rattle.sheet.proofs.Good.{number-few}
+use Rattle.colour.proofs.Filling.{Filling, filling-start, held, judged-end, judged-past, filling-next}
 use Rattle.colour.proofs.judging.judge.Statement.{statement}
 use Rattle.colour.proofs.judging.judge.Tie as tie
 
@@ -18,11 +19,11 @@ loop-holds c = filling-start _ _
 
 mul-record-at : tie.Need-mul-record-at Inv-loop μ-loop
 mul-record-at c =
-    omega (arith, room _ _ _ _ _ (c .before .loop .inv) (omega (arith, c .loop-test .taken, c .before .before .before .before .pre .1 .0)))
+    omega (arith, number-few _ _ _ (c .before .before .before .before .pre .1 .0) (c .loop-test .taken))
 
 shared-slice-read-record-at : tie.Need-shared-slice-read-record-at Inv-loop μ-loop
 shared-slice-read-record-at c =
-    omega (arith, room _ _ _ _ _ (c .before .before .loop .inv) (omega (arith, c .before .loop-test .taken, c .before .before .before .before .before .pre .1 .0)), c .before .before .before .before .before .pre .0 .long)
+    omega (arith, number-few _ _ _ (c .before .before .before .before .before .pre .1 .0) (c .before .loop-test .taken), c .before .before .before .before .before .pre .0 .long)
 
 cast-record-at : tie.Need-cast-record-at Inv-loop μ-loop
 cast-record-at c = omega (arith, c .shared-slice-known3 .given (c .before .before .loop .b .count))
@@ -47,7 +48,7 @@ returns c =
 
 cast-state : tie.Need-cast-state Inv-loop μ-loop
 cast-state c =
-    omega (arith, room _ _ _ _ _ (c .before .before .before .before .before .before .before .before .before .before .before .before .loop .inv) (omega (arith, c .before .before .before .before .before .before .before .before .before .before .before .loop-test .taken, c .before .before .before .before .before .before .before .before .before .before .before .before .before .before .before .pre .1 .0)))
+    omega (arith, number-few _ _ _ (c .before .before .before .before .before .before .before .before .before .before .before .before .before .before .before .pre .1 .0) (c .before .before .before .before .before .before .before .before .before .before .before .loop-test .taken))
 
 slice-aggregate-state : tie.Need-slice-aggregate-state Inv-loop μ-loop
 slice-aggregate-state c = search needs
@@ -64,34 +65,34 @@ class-requires c κs = search needs
 
 array-write-classes : tie.Need-array-write-classes Inv-loop μ-loop
 array-write-classes c =
-    room _ _ _ _ _ (c .before .before .before .before .before .before .before .before .before .before .before .before .before .before .before .before .before .before .before .before .before .loop .inv) (omega (arith, c .before .before .before .before .before .before .before .before .before .before .before .before .before .before .before .before .before .before .before .before .loop-test .taken, c .before .before .before .before .before .before .before .before .before .before .before .before .before .before .before .before .before .before .before .before .before .before .before .before .pre .1 .0))
+    number-few _ _ _ (c .before .before .before .before .before .before .before .before .before .before .before .before .before .before .before .before .before .before .before .before .before .before .before .before .pre .1 .0) (c .before .before .before .before .before .before .before .before .before .before .before .before .before .before .before .before .before .before .before .before .loop-test .taken)
 
 face-requires : tie.Need-face-requires Inv-loop μ-loop
 face-requires c κs = search needs
 
 array-write-faces : tie.Need-array-write-faces Inv-loop μ-loop
 array-write-faces c =
-    room _ _ _ _ _ (c .before .before .before .before .before .before .before .before .before .before .before .before .before .before .before .before .before .before .before .before .before .before .loop .inv) (omega (arith, c .before .before .before .before .before .before .before .before .before .before .before .before .before .before .before .before .before .before .before .before .before .loop-test .taken, c .before .before .before .before .before .before .before .before .before .before .before .before .before .before .before .before .before .before .before .before .before .before .before .before .before .pre .1 .0))
+    number-few _ _ _ (c .before .before .before .before .before .before .before .before .before .before .before .before .before .before .before .before .before .before .before .before .before .before .before .before .before .pre .1 .0) (c .before .before .before .before .before .before .before .before .before .before .before .before .before .before .before .before .before .before .before .before .before .loop-test .taken)
 
 mul-low : tie.Need-mul-low Inv-loop μ-loop
 mul-low c =
-    omega (arith, room _ _ _ _ _ (c .before .before .before .before .before .before .before .before .before .before .before .before .before .before .before .before .before .before .before .before .before .before .before .before .loop .inv) (omega (arith, c .before .before .before .before .before .before .before .before .before .before .before .before .before .before .before .before .before .before .before .before .before .before .before .loop-test .taken, c .before .before .before .before .before .before .before .before .before .before .before .before .before .before .before .before .before .before .before .before .before .before .before .before .before .before .before .pre .1 .0)))
+    omega (arith, number-few _ _ _ (c .before .before .before .before .before .before .before .before .before .before .before .before .before .before .before .before .before .before .before .before .before .before .before .before .before .before .before .pre .1 .0) (c .before .before .before .before .before .before .before .before .before .before .before .before .before .before .before .before .before .before .before .before .before .before .before .loop-test .taken))
 
 element-set-from-low : tie.Need-element-set-from-low Inv-loop μ-loop
 element-set-from-low c =
-    room _ _ _ _ _ (c .before .before .before .before .before .before .before .before .before .before .before .before .before .before .before .before .before .before .before .before .before .before .before .before .loop .inv) (omega (arith, c .before .before .before .before .before .before .before .before .before .before .before .before .before .before .before .before .before .before .before .before .before .before .before .loop-test .taken, c .before .before .before .before .before .before .before .before .before .before .before .before .before .before .before .before .before .before .before .before .before .before .before .before .before .before .before .pre .1 .0))
+    number-few _ _ _ (c .before .before .before .before .before .before .before .before .before .before .before .before .before .before .before .before .before .before .before .before .before .before .before .before .before .before .before .pre .1 .0) (c .before .before .before .before .before .before .before .before .before .before .before .before .before .before .before .before .before .before .before .before .before .before .before .loop-test .taken)
 
 mul-high : tie.Need-mul-high Inv-loop μ-loop
 mul-high c =
-    omega (arith, room _ _ _ _ _ (c .before .before .before .before .before .before .before .before .before .before .before .before .before .before .before .before .before .before .before .before .before .before .before .before .loop .inv) (omega (arith, c .before .before .before .before .before .before .before .before .before .before .before .before .before .before .before .before .before .before .before .before .before .before .before .loop-test .taken, c .before .before .before .before .before .before .before .before .before .before .before .before .before .before .before .before .before .before .before .before .before .before .before .before .before .before .before .pre .1 .0)))
+    omega (arith, number-few _ _ _ (c .before .before .before .before .before .before .before .before .before .before .before .before .before .before .before .before .before .before .before .before .before .before .before .before .before .before .before .pre .1 .0) (c .before .before .before .before .before .before .before .before .before .before .before .before .before .before .before .before .before .before .before .before .before .before .before .loop-test .taken))
 
 element-set-from-high : tie.Need-element-set-from-high Inv-loop μ-loop
 element-set-from-high c =
-    room _ _ _ _ _ (c .before .before .before .before .before .before .before .before .before .before .before .before .before .before .before .before .before .before .before .before .before .before .before .before .loop .inv) (omega (arith, c .before .before .before .before .before .before .before .before .before .before .before .before .before .before .before .before .before .before .before .before .before .before .before .loop-test .taken, c .before .before .before .before .before .before .before .before .before .before .before .before .before .before .before .before .before .before .before .before .before .before .before .before .before .before .before .pre .1 .0))
+    number-few _ _ _ (c .before .before .before .before .before .before .before .before .before .before .before .before .before .before .before .before .before .before .before .before .before .before .before .before .before .before .before .pre .1 .0) (c .before .before .before .before .before .before .before .before .before .before .before .before .before .before .before .before .before .before .before .before .before .before .before .loop-test .taken)
 
 add-b : tie.Need-add-b Inv-loop μ-loop
 add-b c =
-    omega (arith, room _ _ _ _ _ (c .before .before .before .before .before .before .before .before .before .before .before .before .before .before .before .before .before .before .before .before .before .before .before .before .loop .inv) (omega (arith, c .before .before .before .before .before .before .before .before .before .before .before .before .before .before .before .before .before .before .before .before .before .before .before .loop-test .taken, c .before .before .before .before .before .before .before .before .before .before .before .before .before .before .before .before .before .before .before .before .before .before .before .before .before .before .before .pre .1 .0)))
+    omega (arith, number-few _ _ _ (c .before .before .before .before .before .before .before .before .before .before .before .before .before .before .before .before .before .before .before .before .before .before .before .before .before .before .before .pre .1 .0) (c .before .before .before .before .before .before .before .before .before .before .before .before .before .before .before .before .before .before .before .before .before .before .before .loop-test .taken))
 
 loop-less : tie.Need-loop-less Inv-loop μ-loop
 loop-less c = omega arith

@@ -1,5 +1,5 @@
 -- What a cube that was judged tells: the state of the record that was asked, or the first record past the limit. Assumes nothing.
-use mathlib.Core.Path.{_≡_, sym, ap, _∙_}
+use mathlib.Core.Path.{_≡_, ap, _∙_}
 use mathlib.Core.List.{List, [], _∷_}
 use Prim.Native.Nat.{ℕ}
 use native.Mathlib.Omega.{arith}
@@ -33,7 +33,3 @@ module _ (rs : List Record) (of q : Cube) (is : q ≡ of) (which : ℕ) (j : Jud
 
   pub past-first : (n : ℕ) → j ≡ Past n → pastOf rs of ≡ n ∷ []
   past-first n k = cases (λ p i. let z : _≡_ {A = ℕ} 0 1 = cc in absurd (omega arith)) (λ m p i. p ∙ ap (λ (x : ℕ). x ∷ []) (let z : m ≡ n = cc in z))
-
-  -- where no record passes the limit, the state is known
-  pub none-known : pastOf rs of ≡ [] → j ≡ Known asked
-  none-known none = cases (λ p i. i) (λ n p i. let z : [] ≡ n ∷ [] = sym none ∙ p in let y : _≡_ {A = ℕ} 0 1 = cc in absurd (omega arith))

@@ -1,6 +1,6 @@
 -- Laws of `along`: its length, that an entry rests on the records before it alone, and the induction that everything else follows by. Assumes nothing.
 use mathlib.Core.Path.{_≡_, refl, sym, ap, _∙_}
-use mathlib.Core.List.{List, [], _∷_, _++_, append-assoc, append-nil}
+use mathlib.Core.List.{List, [], _∷_, _++_, append-assoc}
 use Prim.Native.Nat.{ℕ, zero, suc, _+_, _≤_, _<_}
 use native.Mathlib.Omega.{arith}
 use lib.ListN.{length, getD, take, drop, length-append, take-append-drop}
@@ -106,12 +106,3 @@ module _ {A B : Type 0} (R : A → B → Type 0) (d : A) (e : B) (none : R d e) 
     -- the same, where a step keeps R whatever the entries before it are
     pub related : ((vs : List A) (ws : List B) (r : Record) → Pairs R d e vs ws → R (f vs r) (g ws r)) → (rs : List Record) → Pairs R d e (along f rs) (along g rs)
     related keeps rs = related-in rs (λ before r after _ h. keeps (along f before) (along g before) r h)
-
--- the records themselves are such a list, so that a relation may be one between an entry and its own record
-pub along-self : (rs : List Record) → along (λ _ r. r) rs ≡ rs
-unfolding along onward
-along-self rs = self [] rs
-  where
-    self : (vs rs : List Record) → onward (λ _ r. r) vs rs ≡ vs ++ rs
-    self vs [] = sym (append-nil vs)
-    self vs (r ∷ rs) = self (vs ++ r ∷ []) rs ∙ append-assoc vs (r ∷ []) rs

@@ -41,21 +41,17 @@ module _ (s : List ℕ) (opens : (named : ℕ → Bool) × (faultOf named s ≡ 
     run = rw same at (opens-run (opens .0) (rootOf s .d) 0 19 (leavesOf s) (opens-parts (opens .0) s (opens .1) .1));
   }
 
-module _ (s : List ℕ) (r : Root) (place at : ℕ) (i : Left s r place at) (h : at < length s) where
-  pub left-bytes : at + 3 ≤ length s
-  left-bytes = omega (arith, i .beat, i .whole)
+-- l is what `leaf_at` answered
+module _ (s : List ℕ) (r : Root) (place at : ℕ) (i : Left s r place at) (h : at < length s) (l : Leaf) (e : l ≡ leafIn s at) where
+  next : Fine (i .named) (r .d) place l × Run (Fine (i .named) (r .d)) (r .d) (place + sizeOf (r .d) l) (leavesFrom s (at + 3)) (8 ^ r .d)
+  unfolding Run
+  next = rw e (rw (more s at h (i .beat) (i .whole)) at (i .run))
 
-  -- l is what `leaf_at` answered
-  module _ (l : Leaf) (e : l ≡ leafIn s at) where
-    next : Fine (i .named) (r .d) place l × Run (Fine (i .named) (r .d)) (r .d) (place + sizeOf (r .d) l) (leavesFrom s (at + 3)) (8 ^ r .d)
-    unfolding Run
-    next = rw e (rw (more s at h (i .beat) (i .whole)) at (i .run))
+  pub left-level : l .level ≤ r .d
+  left-level = good-level (i .named) (r .d) place l (next .0)
 
-    pub left-level : l .level ≤ r .d
-    left-level = good-level (i .named) (r .d) place l (next .0)
+  pub left-room : place + sizeOf (r .d) l ≤ 8 ^ r .d
+  left-room = good-place (i .named) (r .d) place l (next .0) .1
 
-    pub left-room : place + sizeOf (r .d) l ≤ 8 ^ r .d
-    left-room = good-place (i .named) (r .d) place l (next .0) .1
-
-    pub left-on : (p : ℕ) → p ≡ place + sizeOf (r .d) l → Left s r p (at + 3)
-    left-on p same = record { within = i .within; beat = omega (arith, i .beat); whole = i .whole; named = i .named; run = rw same (next .1) }
+  pub left-on : (p : ℕ) → p ≡ place + sizeOf (r .d) l → Left s r p (at + 3)
+  left-on p same = record { within = i .within; beat = omega (arith, i .beat); whole = i .whole; named = i .named; run = rw same (next .1) }

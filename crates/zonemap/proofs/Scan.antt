@@ -62,9 +62,6 @@ module _ (named : ℕ → Bool) (s : List ℕ) (d m : ℕ) where
       record { reach = k; beat = refl; whole = e; room = omega arith; small = power-below d h; same-fault = refl; same-leaf = rw (le-leb 0 m (omega arith)) }
 
   module _ (place at found : ℕ) (i : Scan named s d m place at found) where
-    pub scan-leaf : at < length s → at + 3 ≤ length s
-    scan-leaf h = omega (arith, i .beat, i .whole)
-
     -- l is what `leaf_at` answered, r what `good_size` did and f what `last_before` did
     module _ (l : Leaf) (el : l ≡ leafIn s at) (r : ℕ) (er : r ≡ Sized named d place l) where
       pub scan-room : place + r ≤ 2 ^ 30
@@ -81,7 +78,7 @@ module _ (named : ℕ → Bool) (s : List ℕ) (d m : ℕ) where
             let o = sized-good named d place l r er n in
             let left : leavesFrom s at ≡ l ∷ leavesFrom s (at + 3) = rw (more s at h (i .beat) (i .whole), el) in
             record {
-              reach = scan-leaf h;
+              reach = omega (arith, i .beat, i .whole);
               beat = omega (arith, i .beat);
               whole = i .whole;
               room = sized-room named d place l r er (i .room);

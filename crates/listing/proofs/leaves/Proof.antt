@@ -1,5 +1,5 @@
 -- `listing::leaves` is safe and ends: the leaves that are left run on from `place`. Assumes nothing.
-use Rattle.listing.proofs.Opened.{Left, left-start, left-bytes, left-level, left-room, left-on}
+use Rattle.listing.proofs.Opened.{Left, left-start, left-level, left-room, left-on}
 use borrow.Author.Needs.{needs}
 use native.Mathlib.Omega.{arith}
 use Prim.Native.Nat.{_-_}
@@ -17,15 +17,14 @@ loop-holds : tie.Need-loop-holds Inv-loop μ-loop
 loop-holds c = left-start _ (c .before .pre .0) _ (c .before .pre .1)
 
 leaf-at-requires : tie.Need-leaf-at-requires Inv-loop μ-loop
-leaf-at-requires c κs = left-bytes _ _ _ _ (c .before .loop .inv) (c .loop-test .taken)
+leaf-at-requires c κs = omega (arith, c .loop-test .taken, c .before .loop .inv .beat, c .before .loop .inv .whole)
 
 leaf-requires : tie.Need-leaf-requires Inv-loop μ-loop
 leaf-requires c κs =
     (c .before .before .loop .inv .within, (left-level _ _ _ _ (c .before .before .loop .inv) (c .before .loop-test .taken) _ (c .leaf-at .ensures), left-room _ _ _ _ (c .before .before .loop .inv) (c .before .loop-test .taken) _ (c .leaf-at .ensures)))
 
 add-at : tie.Need-add-at Inv-loop μ-loop
-add-at c =
-    record { fits = omega (arith, left-bytes _ _ _ _ (c .before .before .before .loop .inv) (c .before .before .loop-test .taken)) }
+add-at c = record { fits = omega (arith, c .before .before .loop-test .taken) }
 
 loop-less : tie.Need-loop-less Inv-loop μ-loop
 loop-less c = omega (arith, c .before .before .loop-test .taken)

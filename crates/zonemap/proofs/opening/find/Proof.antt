@@ -4,7 +4,7 @@ use Prim.Native.Nat.{_-_}
 use native.Mathlib.Omega.{arith}
 use lib.Dec.{eqb}
 use lib.ListN.{length, getD}
-use Rattle.zonemap.proofs.Scan.{Scan, scan-start, scan-leaf, scan-room, scan-bad, scan-on, scan-good, scan-short}
+use Rattle.zonemap.proofs.Scan.{Scan, scan-start, scan-room, scan-bad, scan-on, scan-good, scan-short}
 use Rattle.zonemap.proofs.opening.find.Statement.{statement}
 use Rattle.zonemap.proofs.opening.find.Tie as tie
 
@@ -19,7 +19,7 @@ loop-holds c =
     scan-start _ _ _ _ (c .before .before .pre .0) (c .before .before .pre .1 .0) (c .before .before .pre .1 .1 .0)
 
 leaf-at-requires : tie.Need-leaf-at-requires Inv-loop μ-loop
-leaf-at-requires c κs = scan-leaf _ _ _ _ _ _ _ (c .before .loop .inv) (c .loop-test .taken)
+leaf-at-requires c κs = omega (arith, c .loop-test .taken, c .before .loop .inv .beat, c .before .loop .inv .whole)
 
 good-size-requires : tie.Need-good-size-requires Inv-loop μ-loop
 good-size-requires c κs =
@@ -37,8 +37,7 @@ add-place c =
     omega (arith, scan-room _ _ _ _ _ _ _ (c .before .before .before .before .before .loop .inv) _ (c .before .before .before .leaf-at .ensures) _ (c .before .before .good-size .ensures))
 
 add-at : tie.Need-add-at Inv-loop μ-loop
-add-at c =
-    omega (arith, scan-leaf _ _ _ _ _ _ _ (c .before .before .before .before .before .loop .inv) (c .before .before .before .before .loop-test .taken))
+add-at c = omega (arith, c .before .before .before .before .loop-test .taken)
 
 loop-less : tie.Need-loop-less Inv-loop μ-loop
 loop-less c = omega (arith, c .before .before .before .before .loop-test .taken)

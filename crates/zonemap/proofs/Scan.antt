@@ -44,7 +44,6 @@ module _ (d m place at found : ℕ) (l : Leaf) (ls : List Leaf) where
 
 -- ---- the invariant: what is left tells what the whole does
 pub record Scan (named : ℕ → Bool) (s : List ℕ) (d m place at found : ℕ) : Type 0 where
-  pub reach : at ≤ length s
   pub beat : at % 3 ≡ 1
   pub whole : length s % 3 ≡ 1
   pub room : place ≤ 8 ^ d
@@ -57,9 +56,9 @@ module _ (named : ℕ → Bool) (s : List ℕ) (d m : ℕ) where
   abbrev Answer : Opened
   Answer = onFirst (leavesFault named d 0 19 (leavesOf s)) Bad (Good (19 + 3 * leafAt d m 0 (leavesOf s)))
 
-  pub scan-start : d ≤ 10 → 19 ≤ length s → length s % 3 ≡ 1 → Scan named s d m 0 19 19
-  scan-start h k e =
-      record { reach = k; beat = refl; whole = e; room = omega arith; small = power-below d h; same-fault = refl; same-leaf = rw (le-leb 0 m (omega arith)) }
+  pub scan-start : d ≤ 10 → length s % 3 ≡ 1 → Scan named s d m 0 19 19
+  scan-start h e =
+      record { beat = refl; whole = e; room = omega arith; small = power-below d h; same-fault = refl; same-leaf = rw (le-leb 0 m (omega arith)) }
 
   module _ (place at found : ℕ) (i : Scan named s d m place at found) where
     -- l is what `leaf_at` answered, r what `good_size` did and f what `last_before` did
@@ -78,7 +77,6 @@ module _ (named : ℕ → Bool) (s : List ℕ) (d m : ℕ) where
             let o = sized-good named d place l r er n in
             let left : leavesFrom s at ≡ l ∷ leavesFrom s (at + 3) = rw (more s at h (i .beat) (i .whole), el) in
             record {
-              reach = omega (arith, i .beat, i .whole);
               beat = omega (arith, i .beat);
               whole = i .whole;
               room = sized-room named d place l r er (i .room);

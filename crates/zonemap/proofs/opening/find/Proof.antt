@@ -16,7 +16,7 @@ abbrev μ-loop : tie.MeasureT-loop
 
 loop-holds : tie.Need-loop-holds Inv-loop μ-loop
 loop-holds c =
-    scan-start _ _ _ _ (c .before .before .pre .0) (c .before .before .pre .1 .0) (c .before .before .pre .1 .1 .0)
+    scan-start _ _ _ _ (c .before .before .pre .0) (c .before .before .pre .1 .1 .0)
 
 leaf-at-requires : tie.Need-leaf-at-requires Inv-loop μ-loop
 leaf-at-requires c κs = omega (arith, c .loop-test .taken, c .before .loop .inv .beat, c .before .loop .inv .whole)

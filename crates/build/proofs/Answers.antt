@@ -22,7 +22,7 @@ use Rattle.colour.specs.Entries.{pastOf}
 use Rattle.build.specs.Solid.{pastsOf}
 use Rattle.integers.specs.First.{onFirst}
 use Rattle.integers.proofs.First.{none-first}
-use Rattle.build.specs.Build.{Outcome, outcome, builtMap, storedOf, solidOf, onSheet, buildOf, numberOf}
+use Rattle.build.specs.Build.{Outcome, outcome, builtMap, storedOf, overRootOf, onSheet, buildOf, numberOf}
 
 abbrev isDone : Reply → Bool
 isDone (Done n) = true
@@ -65,8 +65,8 @@ module _ (n : ℕ) (out after : List ℕ) where
         let t = stored (builtMap rs root) (e .1) in
         record { within = w; none = p; below = e .0; size = t .0; room = omega (arith, t .0, t .1); bytes = t .2 }
 
-    solid-made : done ≡ solidOf rs root out → Made rs root
-    unfolding solidOf
+    solid-made : done ≡ overRootOf rs root out → Made rs root
+    unfolding overRootOf
     solid-made e =
         by-test (inLimits root)
         (λ h.

@@ -26,7 +26,7 @@ use Rattle.zonemap.specs.Map.{headerOf, leavesBytes, mapOf}
 use Rattle.zonemap.proofs.Bytes.{header-length, map-length}
 use Rattle.build.specs.declared.Reply.the-variants.{Done, Sheet, Limits, OverRoot, Short}
 use Rattle.build.specs.Solid.{leavesOf}
-use Rattle.build.specs.Build.{Outcome, outcome, builtMap, storedOf, solidOf, buildOf}
+use Rattle.build.specs.Build.{Outcome, outcome, builtMap, storedOf, overRootOf, buildOf}
 use Rattle.build.proofs.Cubes.{leaves-few, none-below}
 
 -- ---- replies 1 to 5
@@ -34,7 +34,7 @@ pub bad-sheet : (s : List ℕ) (root : Root) (d : List ℕ) (c : Checked) (why :
 unfolding buildOf
 bad-sheet s root d c why e h = rw (sym e ∙ h)
 
-pub good-sheet : (s : List ℕ) (root : Root) (d : List ℕ) (c : Checked) (n : ℕ) (o : Outcome) → c ≡ checkOf s → c ≡ Good n → o ≡ solidOf (recordsOf s) root d → o ≡ buildOf s root d
+pub good-sheet : (s : List ℕ) (root : Root) (d : List ℕ) (c : Checked) (n : ℕ) (o : Outcome) → c ≡ checkOf s → c ≡ Good n → o ≡ overRootOf (recordsOf s) root d → o ≡ buildOf s root d
 unfolding buildOf
 good-sheet s root d c n o e h k = rw (sym e ∙ h) k
 
@@ -55,19 +55,19 @@ module _ (rs : List Record) (root : Root) (d : List ℕ) where
   ls = leavesOf rs (root .d) top
 
   -- ---- reply 6
-  pub outside : inLimits root ≡ false → outcome Limits d ≡ solidOf rs root d
-  unfolding solidOf
+  pub outside : inLimits root ≡ false → outcome Limits d ≡ overRootOf rs root d
+  unfolding overRootOf
   outside h = rw h
 
   module _ (within : inLimits root ≡ true) where
     -- ---- reply 7
-    pub over-root : (n : ℕ) → pastOf rs top ≡ n ∷ [] → outcome (OverRoot n) d ≡ solidOf rs root d
-    unfolding solidOf
+    pub over-root : (n : ℕ) → pastOf rs top ≡ n ∷ [] → outcome (OverRoot n) d ≡ overRootOf rs root d
+    unfolding overRootOf
     over-root n h = rw (within, h)
 
     -- ---- reply 11 does not come
-    pub no-smaller : pastOf rs top ≡ [] → (o : Outcome) → o ≡ storedOf (builtMap rs root) d → o ≡ solidOf rs root d
-    unfolding solidOf
+    pub no-smaller : pastOf rs top ≡ [] → (o : Outcome) → o ≡ storedOf (builtMap rs root) d → o ≡ overRootOf rs root d
+    unfolding overRootOf
     no-smaller none o e = rw (within, none, none-below rs (root .d) top none) e
 
     -- ---- reply 8, and the map

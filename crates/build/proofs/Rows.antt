@@ -32,7 +32,7 @@ use Rattle.build.specs.declared.Reply.the-variants.{Done, Short}
 use Rattle.build.specs.Tree.{upto, visit}
 use Rattle.build.specs.Solid.{solidState, isGray, leafOf, leavesOf, pastsOf}
 use Rattle.build.proofs.Cubes.{leaves-flat}
-use Rattle.build.specs.Build.{outcome, builtMap, storedOf, solidOf, buildOf}
+use Rattle.build.specs.Build.{outcome, builtMap, storedOf, overRootOf, buildOf}
 
 abbrev leaf : ℕ → ℕ → ℕ → Leaf
 leaf level class face = record { level = level; class = class; face = face }
@@ -77,7 +77,7 @@ unfolding inLimits sizesFit axisFits pastOf pastsOf visit upto isGray solidState
 plain-2 = (refl, refl, refl)
 
 step-build : (d : ℕ) → Plain d → (out : List ℕ) → buildOf stepSheet (stepRoot d) out ≡ storedOf (builtMap stepRecords (stepRoot d)) out
-unfolding buildOf solidOf
+unfolding buildOf overRootOf
 step-build d p out = rw (step-check, step-records, p .0, p .1, p .2)
 
 -- S at d 0: 22 bytes

@@ -38,8 +38,8 @@ storedOf map out =
     (outcome (Done (length map)) (map ++ drop (length map) out))
 
 -- from reply 6 on, of the records of a good sheet
-unfoldable pub solidOf : List Record → Root → List ℕ → Outcome
-solidOf rs root out =
+unfoldable pub overRootOf : List Record → Root → List ℕ → Outcome
+overRootOf rs root out =
     cond (not (inLimits root)) (outcome Limits out)
     (onFirst (pastOf rs (rootCube root)) (λ n. outcome (OverRoot n) out)
     (onFirst (pastsOf rs (root .d) (rootCube root)) (λ n. outcome (OverSmaller n) out)
@@ -47,7 +47,7 @@ solidOf rs root out =
 
 -- replies 1 to 5
 abbrev pub onSheet : Checked → List Record → Root → List ℕ → Outcome
-onSheet (Good n) rs root out = solidOf rs root out
+onSheet (Good n) rs root out = overRootOf rs root out
 onSheet (Refused why) rs root out = outcome (Sheet why) out
 
 -- building from the table of replies, row by row

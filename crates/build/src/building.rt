@@ -10,7 +10,7 @@ ghost use Rattle.kinds.specs.Offsets.{Offsets};
 ghost use Rattle.cube.specs.Limits.{inLimits};
 ghost use Rattle.cube.specs.Cubes.{rootCube};
 ghost use Rattle.colour.specs.Entries.{pastOf};
-ghost use Rattle.build.specs.Build.{outcome, builtMap, storedOf, solidOf, buildOf};
+ghost use Rattle.build.specs.Build.{outcome, builtMap, storedOf, overRootOf, buildOf};
 use crate::Reply;
 use crate::leaves;
 use colour::Judged;
@@ -35,7 +35,7 @@ pub fn build(sheet: &[u8], x: i32, y: i32, z: i32, k: u8, d: u8, out: &mut [u8])
 // Replies 6 and 7, and the rest. No reply 11 comes after them: what holds over the root holds over each smaller cube.
 fn over_root(sheet: &[u8], solid: u8, root: Root, out: &mut [u8]) -> Reply
     requires { ⌜ solid + 1 ≡ length (recordsOf (now sheet)) ⌝ }
-    ensures { λ r. ⌜ outcome r (now (out .exit)) ≡ solidOf (recordsOf (now (sheet .entry))) root (now (out .entry)) ⌝ }
+    ensures { λ r. ⌜ outcome r (now (out .exit)) ≡ overRootOf (recordsOf (now (sheet .entry))) root (now (out .entry)) ⌝ }
 {
     if !root.is_within() {
         return Reply::Limits;

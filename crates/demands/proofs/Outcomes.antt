@@ -23,7 +23,7 @@ use Rattle.build.specs.declared.Reply.{Reply}
 use Rattle.build.specs.declared.Reply.the-variants.{Done, Sheet, Limits, OverRoot, OverSmaller, Short}
 use Rattle.build.specs.Solid.{pastsOf}
 use Rattle.build.proofs.Answers.{done-made}
-use Rattle.build.specs.Build.{Outcome, outcome, builtMap, storedOf, solidOf, onSheet, buildOf, codeOf}
+use Rattle.build.specs.Build.{Outcome, outcome, builtMap, storedOf, overRootOf, onSheet, buildOf, codeOf}
 use Rattle.demands.specs.Terms.{ExactlyOne, CanBuild}
 
 -- what an equation lets in is one
@@ -42,8 +42,8 @@ module _ (before : List ℕ) where
       (λ t. rw t)
       (λ t. absurd (rw t at refused refl))
 
-  solid-kept : (rs : List Record) (root : Root) → Kept (solidOf rs root before)
-  unfolding solidOf
+  solid-kept : (rs : List Record) (root : Root) → Kept (overRootOf rs root before)
+  unfolding overRootOf
   solid-kept rs root =
       by-test (inLimits root)
       (λ t. rw t
@@ -83,7 +83,7 @@ module _ (sheet : List ℕ) (root : Root) (before : List ℕ) where
   told = buildOf sheet root before
 
   pub builds : CanBuild sheet root before → codeOf (told .reply) ≡ 0
-  unfolding buildOf solidOf storedOf
+  unfolding buildOf overRootOf storedOf
   builds f = rw (f .good .1, f .limits, f .over-root, f .over-smaller, le-ltb (length before) (length (builtMap (recordsOf sheet) root)) (f .room))
 
   pub builds-only : codeOf (told .reply) ≡ 0 → CanBuild sheet root before

@@ -48,9 +48,9 @@ readAt s c =
     (onRow (rowAt s (c .at)) (record { at = c .at + 1 + getD s (c .at) 0; left = c .left - 1 }) (c .at)))
 
 -- where reading stands after this: past the record, or at the one that is refused
-abbrev pub placeOf : Read → ℕ
-placeOf (Found r next) = next .at
-placeOf (Refused at) = at
+abbrev pub reachedOf : Read → ℕ
+reachedOf (Found r next) = next .at
+reachedOf (Refused at) = at
 
 -- a record stands at a place: it runs over no end, and a row fits it
 abbrev pub isKnown : Row → Bool

@@ -1,7 +1,7 @@
 // Reading records one after the other.
 
 ghost use mathlib.Core.Path.{_≡_};
-ghost use Rattle.sheet.specs.Table.{readAt, placeOf};
+ghost use Rattle.sheet.specs.Table.{readAt, reachedOf};
 ghost use Rattle.sheet.specs.Records.{start, stopOf};
 use crate::Cursor;
 use crate::Read;
@@ -44,8 +44,8 @@ impl Cursor {
 
 impl Read {
     // Where reading stands after this: past the record, or at the one that is refused.
-    fn place(self) -> usize
-        ensures { λ r. ⌜ r ≡ placeOf self ⌝ }
+    fn reached(self) -> usize
+        ensures { λ r. ⌜ r ≡ reachedOf self ⌝ }
     {
         match self {
             Read::Found(_, next) => next.at,
@@ -62,7 +62,7 @@ pub fn stop(s: &[u8]) -> usize
     loop {
         let r = c.read(s);
         let Read::Found(_, next) = r else {
-            return r.place();
+            return r.reached();
         };
         c = next;
     }

@@ -2,7 +2,7 @@
 use mathlib.Core.Path.{sym, ap, _∙_}
 use Prim.Native.Nat.{_-_}
 use borrow.Author.Needs.{needs}
-use Rattle.sheet.specs.Table.{placeOf}
+use Rattle.sheet.specs.Table.{reachedOf}
 use Rattle.sheet.proofs.Walk.{At, at-first, at-after, fewer-left, stop-is}
 use Rattle.sheet.proofs.reading.stop.Statement.{statement}
 use Rattle.sheet.proofs.reading.stop.Tie as tie
@@ -28,12 +28,12 @@ enum-known-r c = search needs
 enum-told : tie.Need-enum-told Inv-loop μ-loop
 enum-told c = search needs
 
-place-requires : tie.Need-place-requires Inv-loop μ-loop
-place-requires c κs = search needs
+reached-requires : tie.Need-reached-requires Inv-loop μ-loop
+reached-requires c κs = search needs
 
 returns : tie.Need-returns Inv-loop μ-loop
 returns c =
-    c .place .ensures ∙ ap placeOf (c .before .enum-told .given .1) ∙ stop-is _ _ _ (c .before .before .before .before .loop .inv) _ (sym (c .before .before .before .read .ensures) ∙ c .before .enum-told .given .1)
+    c .reached .ensures ∙ ap reachedOf (c .before .enum-told .given .1) ∙ stop-is _ _ _ (c .before .before .before .before .loop .inv) _ (sym (c .before .before .before .read .ensures) ∙ c .before .enum-told .given .1)
 
 loop-less : tie.Need-loop-less Inv-loop μ-loop
 loop-less c =
@@ -54,7 +54,7 @@ stop-spec =
     read-requires
     enum-known-r
     enum-told
-    place-requires
+    reached-requires
     returns
     loop-less
     loop-again)

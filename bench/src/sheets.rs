@@ -84,6 +84,20 @@ fn roof(s: &mut Sheet, mut solid: u8, records: usize) -> u8 {
     solid
 }
 
+/// The case of a sheet that was made to have so many records, over a root at the origin.
+fn finished(s: Sheet, records: usize, k: u8, d: u8) -> Case {
+    assert_eq!(s.count(), records);
+    Case {
+        records,
+        sheet: s.finish(),
+        root: Root {
+            corner: [0, 0, 0],
+            k,
+            d,
+        },
+    }
+}
+
 /// As many rooms with their parts as fit in so many records, under a roof that takes the rest.
 fn corridor(records: usize, k: u8, d: u8) -> Case {
     let mut s = Sheet::default();
@@ -95,16 +109,7 @@ fn corridor(records: usize, k: u8, d: u8) -> Case {
         next += 1;
     }
     roof(&mut s, solid, records);
-    assert_eq!(s.count(), records);
-    Case {
-        records,
-        sheet: s.finish(),
-        root: Root {
-            corner: [0, 0, 0],
-            k,
-            d,
-        },
-    }
+    finished(s, records, k, d)
 }
 
 /// The sheets of the speed measure.
@@ -128,16 +133,7 @@ fn hall(records: usize, d: u8) -> Case {
         let room = roof(&mut s, space, records - 1);
         s.either(wall, room);
     }
-    assert_eq!(s.count(), records);
-    Case {
-        records,
-        sheet: s.finish(),
-        root: Root {
-            corner: [0, 0, 0],
-            k: 14,
-            d,
-        },
-    }
+    finished(s, records, 14, d)
 }
 
 /// Fourth powers, which are past the limit over a root that is large or far off.

@@ -17,7 +17,7 @@ use colour::State;
 use cube::Cube;
 use zonemap::Leaf;
 
-// The solid's state over a cube.
+// The solid's state over a cube. As no record's bounds pass the limit there, the second arm is never met.
 fn solid_state(s: &[u8], offsets: &[u16], solid: u8, q: Cube) -> State
     requires { ⌜ Offsets (now offsets) (now s) ⌝ ∗ ⌜ solid + 1 ≡ length (recordsOf (now s)) ⌝ ∗ ⌜ Near 0 q ⌝ ∗ ⌜ pastOf (recordsOf (now s)) q ≡ [] ⌝ }
     ensures { λ r. ⌜ r ≡ solidState (recordsOf (now (s .entry))) q ⌝ }

@@ -1,4 +1,4 @@
-// Records of a sheet that was checked: where they stand, and what they are by their kind alone. A sheet is walked for each cube, and not checked again.
+// Records of a sheet that was checked: where they stand, and what they are by their kind alone. A sheet is read again for each cube, and not checked again.
 
 mod marking;
 mod records;

@@ -9,16 +9,16 @@ use Rattle.sheet.specs.declared.Record.{Record}
 use Rattle.cube.specs.declared.Cube.{Cube}
 use Rattle.cube.specs.Cubes.{childOf}
 use Rattle.build.specs.Tree.{upto}
-use Rattle.build.specs.Solid.{isGray, leavesOf}
+use Rattle.build.specs.Solid.{isGray, leavesBelow}
 use Rattle.build.proofs.Tree.{upto-none, upto-length, upto-most}
 use Rattle.build.proofs.Cubes.{kidLeaves, kid-leaves, leaves-split, leaves-end, leaves-flat, leaves-few, Split}
 
 -- a cube that is not split
 module _ (rs : List Record) (left : ℕ) (q : Cube) where
-  pub one-end : left ≡ 0 → 1 ≡ length (leavesOf rs left q)
+  pub one-end : left ≡ 0 → 1 ≡ length (leavesBelow rs left q)
   one-end h = sym (ap length (leaves-end rs left q h))
 
-  pub one-flat : isGray rs q ≡ false → 1 ≡ length (leavesOf rs left q)
+  pub one-flat : isGray rs q ≡ false → 1 ≡ length (leavesBelow rs left q)
   one-flat h = sym (ap length (leaves-flat rs left q h))
 
 -- k of the children were counted
@@ -31,18 +31,18 @@ pub counting-start : (rs : List Record) (left : ℕ) (q : Cube) → Split rs lef
 counting-start rs left q h = record { split = h; few = omega arith; same = sym (ap length (upto-none (kidLeaves rs left q))) }
 
 module _ (rs : List Record) (left : ℕ) (q : Cube) (total k : ℕ) (w : Counting rs left q total k) where
-  all : leavesOf rs left q ≡ upto (kidLeaves rs left q) 8
+  all : leavesBelow rs left q ≡ upto (kidLeaves rs left q) 8
   all = leaves-split rs left q (w .split .deep) (w .split .gray)
 
-  pub counted-all : 8 ≤ k → total ≡ length (leavesOf rs left q)
+  pub counted-all : 8 ≤ k → total ≡ length (leavesBelow rs left q)
   counted-all h =
       let e : k ≡ 8 = omega (arith, w .few) in
       rw all (rw e at (w .same))
 
-  module _ (more : k < 8) (child : Cube) (is : child ≡ childOf q k) (n : ℕ) (e : n ≡ length (leavesOf rs (left - 1) child)) where
+  module _ (more : k < 8) (child : Cube) (is : child ≡ childOf q k) (n : ℕ) (e : n ≡ length (leavesBelow rs (left - 1) child)) where
     next-is : total + n ≡ length (upto (kidLeaves rs left q) (k + 1))
     next-is =
-        let f : n ≡ length (kidLeaves rs left q k) = e ∙ ap (λ (c : Cube). length (leavesOf rs (left - 1) c)) is ∙ ap length (sym (kid-leaves rs left q k)) in
+        let f : n ≡ length (kidLeaves rs left q k) = e ∙ ap (λ (c : Cube). length (leavesBelow rs (left - 1) c)) is ∙ ap length (sym (kid-leaves rs left q k)) in
         omega (arith, w .same, f, upto-length (kidLeaves rs left q) k)
 
     pub counting-room : left ≤ 10 → total + n ≤ 2 ^ 30

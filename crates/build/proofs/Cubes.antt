@@ -22,7 +22,7 @@ use Rattle.colour.specs.States.{classOf}
 use Rattle.colour.proofs.Told.{known-is, past-first}
 use Rattle.colour.proofs.Smaller.{none-smaller}
 use Rattle.build.specs.Tree.{upto}
-use Rattle.build.specs.Solid.{solidState, isGray, leafOf, leavesOf, pastsOf}
+use Rattle.build.specs.Solid.{solidState, isGray, leafOf, leavesBelow, pastsOf}
 use Rattle.build.proofs.Tree.{kid, upto-nothing, visit-end, visit-flat, visit-gray, visit-most}
 
 -- a cube that is split
@@ -39,8 +39,8 @@ module _ (rs : List Record) where
   kidPasts = kid (isGray rs) (pastOf rs) (pastOf rs)
 
   module _ (left : ℕ) (q : Cube) where
-    pub kid-leaves : (k : ℕ) → kidLeaves left q k ≡ leavesOf rs (left - 1) (childOf q k)
-    unfolding leavesOf
+    pub kid-leaves : (k : ℕ) → kidLeaves left q k ≡ leavesBelow rs (left - 1) (childOf q k)
+    unfolding leavesBelow
     kid-leaves k = refl
 
     pub kid-pasts : (k : ℕ) → kidPasts left q k ≡ pastsOf rs (left - 1) (childOf q k)
@@ -49,8 +49,8 @@ module _ (rs : List Record) where
 
     -- a cube that is split
     module _ (l : 0 < left) (g : isGray rs q ≡ true) where
-      pub leaves-split : leavesOf rs left q ≡ upto (kidLeaves left q) 8
-      unfolding leavesOf
+      pub leaves-split : leavesBelow rs left q ≡ upto (kidLeaves left q) 8
+      unfolding leavesBelow
       leaves-split = visit-gray (isGray rs) (λ q. []) (λ q. leafOf rs q ∷ []) left q l g
 
       pub pasts-split : pastsOf rs left q ≡ pastOf rs q ++ upto (kidPasts left q) 8
@@ -58,12 +58,12 @@ module _ (rs : List Record) where
       pasts-split = visit-gray (isGray rs) (pastOf rs) (pastOf rs) left q l g
 
     -- a cube that is not
-    pub leaves-end : left ≡ 0 → leavesOf rs left q ≡ leafOf rs q ∷ []
-    unfolding leavesOf
+    pub leaves-end : left ≡ 0 → leavesBelow rs left q ≡ leafOf rs q ∷ []
+    unfolding leavesBelow
     leaves-end e = visit-end (isGray rs) (λ q. []) (λ q. leafOf rs q ∷ []) left q e
 
-    pub leaves-flat : isGray rs q ≡ false → leavesOf rs left q ≡ leafOf rs q ∷ []
-    unfolding leavesOf
+    pub leaves-flat : isGray rs q ≡ false → leavesBelow rs left q ≡ leafOf rs q ∷ []
+    unfolding leavesBelow
     leaves-flat e = visit-flat (isGray rs) (λ q. []) (λ q. leafOf rs q ∷ []) left q e
 
     pub pasts-end : left ≡ 0 → pastsOf rs left q ≡ pastOf rs q
@@ -74,8 +74,8 @@ module _ (rs : List Record) where
     unfolding pastsOf
     pasts-flat e = visit-flat (isGray rs) (pastOf rs) (pastOf rs) left q e
 
-    pub leaves-few : left ≤ 10 → length (leavesOf rs left q) ≤ 2 ^ 30
-    unfolding leavesOf
+    pub leaves-few : left ≤ 10 → length (leavesBelow rs left q) ≤ 2 ^ 30
+    unfolding leavesBelow
     leaves-few h = le-trans (visit-most (isGray rs) (λ q. []) (λ q. leafOf rs q ∷ []) (λ q. refl) (λ q. refl) left q) (pow-le-pow-right (zero-lt-suc 7) h)
 
   -- ---- the limit

@@ -25,7 +25,7 @@ use Rattle.zonemap.specs.declared.Leaf.{Leaf}
 use Rattle.zonemap.specs.Map.{headerOf, leavesBytes, mapOf}
 use Rattle.zonemap.proofs.Bytes.{header-length, map-length}
 use Rattle.build.specs.declared.Reply.the-variants.{Done, Sheet, Limits, OverRoot, Short}
-use Rattle.build.specs.Solid.{leavesOf}
+use Rattle.build.specs.Solid.{leavesBelow}
 use Rattle.build.specs.Build.{Outcome, outcome, builtMap, storedOf, overRootOf, buildOf}
 use Rattle.build.proofs.Cubes.{leaves-few, none-below}
 
@@ -40,11 +40,11 @@ good-sheet s root d c n o e h k = rw (sym e ∙ h) k
 
 -- ---- what the functions on the way learn
 module _ (rs : List Record) (root : Root) where
-  pub count-few : inLimits root ≡ true → (n : ℕ) → n ≡ length (leavesOf rs (root .d) (rootCube root)) → n ≤ 2 ^ 30
+  pub count-few : inLimits root ≡ true → (n : ℕ) → n ≡ length (leavesBelow rs (root .d) (rootCube root)) → n ≤ 2 ^ 30
   count-few within n count = rw count (leaves-few rs (root .d) (rootCube root) (limits-sizes root within .1))
 
   module _ (q : Cube) (is : q ≡ rootCube root) where
-    pub write-room : (n : ℕ) (d d₁ : List ℕ) → n ≡ length (leavesOf rs (root .d) (rootCube root)) → 19 + 3 * n ≤ length d → d₁ ≡ sets d 0 (headerOf root n) → 19 + 3 * length (leavesOf rs (root .d) q) ≤ length d₁
+    pub write-room : (n : ℕ) (d d₁ : List ℕ) → n ≡ length (leavesBelow rs (root .d) (rootCube root)) → 19 + 3 * n ≤ length d → d₁ ≡ sets d 0 (headerOf root n) → 19 + 3 * length (leavesBelow rs (root .d) q) ≤ length d₁
     write-room n d d₁ count room header = rw (is, ← count, header, length-sets d 0 (headerOf root n)) room
 
 module _ (rs : List Record) (root : Root) (d : List ℕ) where
@@ -52,7 +52,7 @@ module _ (rs : List Record) (root : Root) (d : List ℕ) where
   top = rootCube root
 
   abbrev ls : List Leaf
-  ls = leavesOf rs (root .d) top
+  ls = leavesBelow rs (root .d) top
 
   -- ---- reply 6
   pub outside : inLimits root ≡ false → outcome Limits d ≡ overRootOf rs root d

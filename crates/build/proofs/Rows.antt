@@ -30,7 +30,7 @@ use Rattle.zonemap.specs.Map.{leafBytes, leavesBytes, cornerBytes, headerOf, ma
 use Rattle.zonemap.proofs.Rows.{stepRoot, stepMap}
 use Rattle.build.specs.declared.Reply.the-variants.{Done, Short}
 use Rattle.build.specs.Tree.{upto, visit}
-use Rattle.build.specs.Solid.{solidState, isGray, leafOf, leavesOf, pastsOf}
+use Rattle.build.specs.Solid.{solidState, isGray, leafOf, leavesBelow, pastsOf}
 use Rattle.build.proofs.Cubes.{leaves-flat}
 use Rattle.build.specs.Build.{outcome, builtMap, storedOf, overRootOf, buildOf}
 
@@ -38,20 +38,20 @@ abbrev leaf : ℕ → ℕ → ℕ → Leaf
 leaf level class face = record { level = level; class = class; face = face }
 
 -- S at d 0: one leaf, level 0, gray
-pub depth-0 : leavesOf stepRecords 0 (rootCube (stepRoot 0)) ≡ leaf 0 4 0 ∷ []
-unfolding leavesOf visit isGray leafOf solidState along onward entryOf boundsOf stateOf across sum difference faceState bothOf rootCube
+pub depth-0 : leavesBelow stepRecords 0 (rootCube (stepRoot 0)) ≡ leaf 0 4 0 ∷ []
+unfolding leavesBelow visit isGray leafOf solidState along onward entryOf boundsOf stateOf across sum difference faceState bothOf rootCube
 depth-0 = refl
 
 -- S at d 1: 8 leaves
-pub depth-1 : leavesOf stepRecords 1 (rootCube (stepRoot 1)) ≡ leaf 1 1 0 ∷ leaf 1 2 5 ∷ leaf 1 2 6 ∷ leaf 1 4 0 ∷ leaf 1 1 0 ∷ leaf 1 2 5 ∷ leaf 1 2 6 ∷ leaf 1 4 0 ∷ []
-unfolding leavesOf visit upto isGray leafOf solidState along onward entryOf boundsOf stateOf across sum difference faceState bothOf rootCube childOf
+pub depth-1 : leavesBelow stepRecords 1 (rootCube (stepRoot 1)) ≡ leaf 1 1 0 ∷ leaf 1 2 5 ∷ leaf 1 2 6 ∷ leaf 1 4 0 ∷ leaf 1 1 0 ∷ leaf 1 2 5 ∷ leaf 1 2 6 ∷ leaf 1 4 0 ∷ []
+unfolding leavesBelow visit upto isGray leafOf solidState along onward entryOf boundsOf stateOf across sum difference faceState bothOf rootCube childOf
 depth-1 = refl
 
 -- S at d 2: 22 leaves; each gray cube becomes gray, white, white, white, twice
 pub depth-2 :
-    leavesOf stepRecords 2 (rootCube (stepRoot 2))
+    leavesBelow stepRecords 2 (rootCube (stepRoot 2))
     ≡ leaf 1 1 0 ∷ leaf 1 2 5 ∷ leaf 1 2 6 ∷ leaf 2 4 0 ∷ leaf 2 0 0 ∷ leaf 2 0 0 ∷ leaf 2 0 0 ∷ leaf 2 4 0 ∷ leaf 2 0 0 ∷ leaf 2 0 0 ∷ leaf 2 0 0 ∷ leaf 1 1 0 ∷ leaf 1 2 5 ∷ leaf 1 2 6 ∷ leaf 2 4 0 ∷ leaf 2 0 0 ∷ leaf 2 0 0 ∷ leaf 2 0 0 ∷ leaf 2 4 0 ∷ leaf 2 0 0 ∷ leaf 2 0 0 ∷ leaf 2 0 0 ∷ []
-unfolding leavesOf visit upto isGray leafOf solidState along onward entryOf boundsOf stateOf across sum difference faceState bothOf rootCube childOf
+unfolding leavesBelow visit upto isGray leafOf solidState along onward entryOf boundsOf stateOf across sum difference faceState bothOf rootCube childOf
 depth-2 = refl
 
 -- the map of S at d 1, byte by byte
@@ -126,7 +126,7 @@ module _ (rs : List Record) (a : ℕ) where
       (λ u. let z : Single n ≡ Single f = rw (t, u) at e in cc))
 
   -- Single over the root, it gives one leaf at any depth: level 0, class 2, that face
-  pub one-face : (root : Root) (f : ℕ) → solidState faced (rootCube root) ≡ Single f → leavesOf faced (root .d) (rootCube root) ≡ leaf 0 2 (length rs) ∷ []
+  pub one-face : (root : Root) (f : ℕ) → solidState faced (rootCube root) ≡ Single f → leavesBelow faced (root .d) (rootCube root) ≡ leaf 0 2 (length rs) ∷ []
   unfolding isGray leafOf rootCube
   one-face root f s =
       let g : isGray faced (rootCube root) ≡ false = rw s in

@@ -14,7 +14,7 @@ use Rattle.zonemap.specs.declared.Leaf.{Leaf}
 use Rattle.zonemap.specs.Map.{leafBytes, leavesBytes}
 use Rattle.zonemap.proofs.Bytes.{leaves-bytes-length, leaves-bytes-append}
 use Rattle.build.specs.Tree.{upto}
-use Rattle.build.specs.Solid.{solidState, leafBy, leafOf, leavesOf}
+use Rattle.build.specs.Solid.{solidState, leafBy, leafOf, leavesBelow}
 use Rattle.build.proofs.Tree.{upto-none, upto-more, upto-length, upto-most}
 use Rattle.build.proofs.Cubes.{kidLeaves, kid-leaves, leaves-split, Split}
 
@@ -23,11 +23,11 @@ abbrev Put : List Leaf → List ℕ → ℕ → ℕ → List ℕ → Type 0
 Put ls d at r out = (r ≡ at + 3 * length ls) × (out ≡ sets d at (leavesBytes ls))
 
 -- ---- a cube that is not split
-module _ (rs : List Record) (left : ℕ) (q : Cube) (one : leavesOf rs left q ≡ leafOf rs q ∷ []) (at : ℕ) where
-  pub leaf-room : (m : ℕ) → at + 3 * length (leavesOf rs left q) ≤ m → at + 3 ≤ m
+module _ (rs : List Record) (left : ℕ) (q : Cube) (one : leavesBelow rs left q ≡ leafOf rs q ∷ []) (at : ℕ) where
+  pub leaf-room : (m : ℕ) → at + 3 * length (leavesBelow rs left q) ≤ m → at + 3 ≤ m
   leaf-room m h = omega (arith, ap length one)
 
-  pub leaf-put : (state : State) → state ≡ solidState rs q → (d out : List ℕ) (r : ℕ) → (r ≡ at + 3) × (out ≡ sets d at (leafBytes (leafBy (q .level) state))) → Put (leavesOf rs left q) d at r out
+  pub leaf-put : (state : State) → state ≡ solidState rs q → (d out : List ℕ) (r : ℕ) → (r ≡ at + 3) × (out ≡ sets d at (leafBytes (leafBy (q .level) state))) → Put (leavesBelow rs left q) d at r out
   unfolding leafOf leavesBytes leafBytes
   leaf-put state s d out r h = rw (one, ← s) (omega (arith, h .0), h .1)
 
@@ -48,26 +48,26 @@ module _ (rs : List Record) (left : ℕ) (q : Cube) (d : List ℕ) (at : ℕ) (o
   abbrev kids : ℕ → List Leaf
   kids = kidLeaves rs left q
 
-  all : leavesOf rs left q ≡ upto kids 8
+  all : leavesBelow rs left q ≡ upto kids 8
   all = leaves-split rs left q (w .split .deep) (w .split .gray)
 
   pub writing-length : length out ≡ length d
   writing-length = ap length (w .bytes) ∙ length-sets d at (leavesBytes (upto kids k))
 
-  pub writing-all : 8 ≤ k → Put (leavesOf rs left q) d at next out
+  pub writing-all : 8 ≤ k → Put (leavesBelow rs left q) d at next out
   writing-all h =
       let e : k ≡ 8 = omega (arith, w .few) in
       rw all (rw e at (w .place), rw e at (w .bytes))
 
   module _ (more : k < 8) (child : Cube) (is : child ≡ childOf q k) where
-    leaves-are : leavesOf rs (left - 1) child ≡ kids k
-    leaves-are = ap (leavesOf rs (left - 1)) is ∙ sym (kid-leaves rs left q k)
+    leaves-are : leavesBelow rs (left - 1) child ≡ kids k
+    leaves-are = ap (leavesBelow rs (left - 1)) is ∙ sym (kid-leaves rs left q k)
 
-    pub child-room : at + 3 * length (leavesOf rs left q) ≤ length d → next + 3 * length (leavesOf rs (left - 1) child) ≤ length out
+    pub child-room : at + 3 * length (leavesBelow rs left q) ≤ length d → next + 3 * length (leavesBelow rs (left - 1) child) ≤ length out
     child-room h =
         omega (arith, w .place, writing-length, ap length leaves-are, upto-length kids k, upto-most kids (k + 1) 8 (omega arith), ap length all)
 
-    pub writing-next : (r : ℕ) (after : List ℕ) → Put (leavesOf rs (left - 1) child) out next r after → Writing rs left q d at after r (k + 1)
+    pub writing-next : (r : ℕ) (after : List ℕ) → Put (leavesBelow rs (left - 1) child) out next r after → Writing rs left q d at after r (k + 1)
     writing-next r after h =
         let p : Put (kids k) out next r after = rw leaves-are at h in
         record {

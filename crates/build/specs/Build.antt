@@ -17,7 +17,7 @@ use Rattle.zonemap.specs.Map.{mapOf}
 use Rattle.build.specs.declared.Reply.{Reply}
 use Rattle.build.specs.declared.Reply.the-variants.{Done, Sheet, Limits, OverRoot, OverSmaller, Short}
 use Rattle.colour.specs.Entries.{pastOf}
-use Rattle.build.specs.Solid.{leavesOf, pastsOf}
+use Rattle.build.specs.Solid.{leavesBelow, pastsOf}
 
 -- the reply, and the bytes of the lent buffer afterwards
 pub record Outcome : Type 0 where
@@ -29,7 +29,7 @@ outcome r out = record { reply = r; buffer = out }
 
 -- the map that document 01's rules name
 unfoldable pub builtMap : List Record → Root → List ℕ
-builtMap rs root = mapOf root (leavesOf rs (root .d) (rootCube root))
+builtMap rs root = mapOf root (leavesBelow rs (root .d) (rootCube root))
 
 -- from reply 8 on: building writes at the start of the lent buffer; later bytes stay
 unfoldable pub storedOf : List ℕ → List ℕ → Outcome

@@ -28,8 +28,8 @@ unfoldable pub leafOf : List Record → Cube → Leaf
 leafOf rs q = leafBy (q .level) (solidState rs q)
 
 -- the leaves below a cube, with so many levels left
-unfoldable pub leavesOf : List Record → ℕ → Cube → List Leaf
-leavesOf rs = visit (isGray rs) (λ q. []) (λ q. leafOf rs q ∷ [])
+unfoldable pub leavesBelow : List Record → ℕ → Cube → List Leaf
+leavesBelow rs = visit (isGray rs) (λ q. []) (λ q. leafOf rs q ∷ [])
 
 -- the first records whose bounds pass 2^60, of all cubes, a cube before its children
 unfoldable pub pastsOf : List Record → ℕ → Cube → List ℕ

@@ -11,7 +11,7 @@ ghost use Rattle.kinds.specs.Offsets.{Offsets};
 ghost use Rattle.cube.specs.Limits.{Near};
 ghost use Rattle.colour.specs.Entries.{pastOf};
 ghost use Rattle.zonemap.specs.Map.{leafBytes, leavesBytes};
-ghost use Rattle.build.specs.Solid.{solidState, leafBy, leavesOf};
+ghost use Rattle.build.specs.Solid.{solidState, leafBy, leavesBelow};
 use colour::Judged;
 use colour::State;
 use cube::Cube;
@@ -31,7 +31,7 @@ fn solid_state(s: &[u8], offsets: &[u16], solid: u8, q: Cube) -> State
 // The number of leaves below a cube. At the last level a cube is one leaf, whatever its colour.
 pub fn count(s: &[u8], offsets: &[u16], solid: u8, q: Cube, left: u8) -> usize
     requires { ⌜ Offsets (now offsets) (now s) ⌝ ∗ ⌜ solid + 1 ≡ length (recordsOf (now s)) ⌝ ∗ ⌜ Near left q ⌝ ∗ ⌜ pastOf (recordsOf (now s)) q ≡ [] ⌝ }
-    ensures { λ r. ⌜ r ≡ length (leavesOf (recordsOf (now (s .entry))) left q) ⌝ }
+    ensures { λ r. ⌜ r ≡ length (leavesBelow (recordsOf (now (s .entry))) left q) ⌝ }
 {
     if left == 0 {
         return 1;
@@ -73,8 +73,8 @@ pub fn write(
     q: Cube,
     left: u8,
 ) -> usize
-    requires { ⌜ Offsets (now offsets) (now s) ⌝ ∗ ⌜ solid + 1 ≡ length (recordsOf (now s)) ⌝ ∗ ⌜ Near left q ⌝ ∗ ⌜ pastOf (recordsOf (now s)) q ≡ [] ⌝ ∗ ⌜ at + 3 * length (leavesOf (recordsOf (now s)) left q) ≤ length (now out) ⌝ }
-    ensures { λ r. ⌜ (r ≡ at + 3 * length (leavesOf (recordsOf (now (s .entry))) left q)) × (now (out .exit) ≡ sets (now (out .entry)) at (leavesBytes (leavesOf (recordsOf (now (s .entry))) left q))) ⌝ }
+    requires { ⌜ Offsets (now offsets) (now s) ⌝ ∗ ⌜ solid + 1 ≡ length (recordsOf (now s)) ⌝ ∗ ⌜ Near left q ⌝ ∗ ⌜ pastOf (recordsOf (now s)) q ≡ [] ⌝ ∗ ⌜ at + 3 * length (leavesBelow (recordsOf (now s)) left q) ≤ length (now out) ⌝ }
+    ensures { λ r. ⌜ (r ≡ at + 3 * length (leavesBelow (recordsOf (now (s .entry))) left q)) × (now (out .exit) ≡ sets (now (out .entry)) at (leavesBytes (leavesBelow (recordsOf (now (s .entry))) left q))) ⌝ }
 {
     let state = solid_state(s, offsets, solid, q);
     let class = state.class();

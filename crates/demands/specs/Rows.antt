@@ -21,7 +21,7 @@ use Rattle.zonemap.specs.Map.{mapOf}
 use Rattle.zonemap.specs.Opening.{leavesOf}
 use Rattle.zonemap.proofs.Rows.{stepRoot, stepMap}
 use Rattle.build.specs.declared.Reply.the-variants.{Done as Built, Short}
-use Rattle.build.specs.Solid.{solidState, leavesOf as leavesBelow}
+use Rattle.build.specs.Solid.{solidState, leavesBelow}
 use Rattle.build.specs.Build.{outcome, buildOf}
 use Rattle.lookup.specs.declared.Answer.the-variants.{Outside, Inside, Undecided}
 use Rattle.lookup.specs.declared.Reply.the-variants.{Done, NotInRoot}

@@ -20,7 +20,7 @@ use Rattle.cube.proofs.Limits.{limits-sizes}
 use Rattle.cube.proofs.Corners.{times-eight}
 use Rattle.cube.proofs.Cubes.{child-cube, root-cube}
 use Rattle.zonemap.specs.declared.Leaf.{Leaf}
-use Rattle.zonemap.specs.Opening.{rootOf, levelGood, placeGood, leafGood, faultOf, leavesOf as leavesIn}
+use Rattle.zonemap.specs.Opening.{rootOf, levelGood, placeGood, leafGood, faultOf, leavesOf}
 use Rattle.zonemap.specs.Leaves.{placeAt, nowhere}
 use Rattle.zonemap.proofs.Runs.{Run, Fine, run-append, run-map, run-at}
 use Rattle.zonemap.proofs.Trip.{leaves-back, root-back, map-opens}
@@ -28,7 +28,7 @@ use Rattle.colour.specs.declared.State.{State}
 use Rattle.colour.specs.declared.State.the-variants.{Out, In, Single, Comp, Mixed}
 use Rattle.colour.specs.States.{classOf}
 use Rattle.build.specs.Tree.{upto}
-use Rattle.build.specs.Solid.{solidState, isGray, leafBy, leafOf, leavesOf}
+use Rattle.build.specs.Solid.{solidState, isGray, leafBy, leafOf, leavesBelow}
 use Rattle.build.specs.Build.{builtMap}
 use Rattle.build.proofs.Cubes.{kidLeaves, kid-leaves, leaves-split, leaves-end, leaves-flat, leaves-few}
 use Rattle.roundtrip.proofs.Named.{solid-good}
@@ -90,7 +90,7 @@ module _ (rs : List Record) (root : Root) (within : inLimits root ≡ true) wher
   part : (c n k : ℕ) → (c * 8 + k) * 8 ^ n ≡ c * 8 ^ suc n + k * 8 ^ n
   part c n k = omega (arith, times-eight c n)
 
-  leaves-run : (n level c : ℕ) → level + n ≡ d → c * 8 ^ n + 8 ^ n ≤ 8 ^ d → Run True d (c * 8 ^ n) (leavesOf rs n (cubeAt root (c * 8 ^ n) level)) (c * 8 ^ n + 8 ^ n)
+  leaves-run : (n level c : ℕ) → level + n ≡ d → c * 8 ^ n + 8 ^ n ≤ 8 ^ d → Run True d (c * 8 ^ n) (leavesBelow rs n (cubeAt root (c * 8 ^ n) level)) (c * 8 ^ n + 8 ^ n)
   leaves-run zero level c e h = rw (leaves-end rs 0 _ refl) (single zero level c e h (last-level (isGray rs (cubeAt root (c * 8 ^ 0) level)) level d (omega arith)))
   leaves-run (suc n) level c e h =
       let q : Cube = cubeAt root (c * 8 ^ suc n) level in
@@ -101,8 +101,8 @@ module _ (rs : List Record) (root : Root) (within : inLimits root ≡ true) wher
       (run-upto True d (c * 8 ^ suc n) (8 ^ n) 8 (kidLeaves rs (suc n) q)
       (λ k l.
       let m : suc n - 1 ≡ n = omega arith in
-      let kid : kidLeaves rs (suc n) q k ≡ leavesOf rs n (cubeAt root ((c * 8 + k) * 8 ^ n) (level + 1)) =
-      kid-leaves rs (suc n) q k ∙ ap (λ (i : ℕ). leavesOf rs i (childOf q k)) m ∙ ap (leavesOf rs n) (child-cube root (limits-sizes root within .2) n level c k e l ∙ ap (λ (i : ℕ). cubeAt root i (level + 1)) (sym (part c n k))) in
+      let kid : kidLeaves rs (suc n) q k ≡ leavesBelow rs n (cubeAt root ((c * 8 + k) * 8 ^ n) (level + 1)) =
+      kid-leaves rs (suc n) q k ∙ ap (λ (i : ℕ). leavesBelow rs i (childOf q k)) m ∙ ap (leavesBelow rs n) (child-cube root (limits-sizes root within .2) n level c k e l ∙ ap (λ (i : ℕ). cubeAt root i (level + 1)) (sym (part c n k))) in
       rw (kid, ← part c n k)
       (leaves-run n (level + 1) (c * 8 + k) (omega arith)
       (let b : k ≤ 7 = omega arith in omega (arith, part c n k, mul-le-mul-right (8 ^ n) b))))))
@@ -110,7 +110,7 @@ module _ (rs : List Record) (root : Root) (within : inLimits root ≡ true) wher
 
   -- the leaves of the root
   abbrev pub all : List Leaf
-  all = leavesOf rs d (rootCube root)
+  all = leavesBelow rs d (rootCube root)
 
   pub root-run : Run True d 0 all (8 ^ d)
   root-run =
@@ -131,7 +131,7 @@ module _ (rs : List Record) (root : Root) (within : inLimits root ≡ true) wher
   unfolding builtMap
   built-root = root-back root all within
 
-  pub built-leaves : leavesIn (builtMap rs root) ≡ all
+  pub built-leaves : leavesOf (builtMap rs root) ≡ all
   unfolding builtMap
   built-leaves = leaves-back root all
 

@@ -1,4 +1,4 @@
--- The needs of `axis_fits`, `axis_holds`, `sizes_fit`, `is_within`, `holds`, `power`, `moved` and `steps_to`, each as it stands: the machine reads a number back from its bits. Assumes nothing.
+-- The needs of `axis_fits`, `axis_holds`, `sizes_fit`, `is_within`, `holds`, `two_to`, `moved` and `steps_to`, each as it stands: the machine reads a number back from its bits. Assumes nothing.
 use mathlib.Core.Path.{_≡_, sym, _∙_}
 use mathlib.Core.Bool.{Bool, true, false}
 use Prim.Native.Nat.{ℕ, _+_, _*_, _/_, _%_, _≤_, _<_, _^_}
@@ -55,7 +55,7 @@ module _ (k d : ℕ) where
   unfolding sizesFit
   sizes-large h = rw (lt-leb k 16 h)
 
--- ---- power
+-- ---- two_to
 pub shift-is : (n : ℕ) → n ≤ 16 → 1 * 2 ^ n % 4294967296 ≡ 2 ^ n
 shift-is n h = omega (arith, pow-mono {i = n} {j = 16} h)
 

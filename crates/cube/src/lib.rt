@@ -51,7 +51,7 @@ fn sizes_fit(k: u8, d: u8) -> bool
 }
 
 // The side 2^n.
-fn power(n: u8) -> u32
+fn two_to(n: u8) -> u32
     requires { ⌜ n ≤ 16 ⌝ }
     ensures { λ r. ⌜ r ≡ 2 ^ n ⌝ }
 {
@@ -102,7 +102,7 @@ impl Root {
         ensures { λ r. ⌜ r ≡ inLimits self ⌝ }
     {
         if sizes_fit(self.k, self.d) {
-            let side = power(self.k);
+            let side = two_to(self.k);
             if axis_fits(self.x, side) {
                 return axis_fits(self.y, side) && axis_fits(self.z, side);
             }
@@ -120,7 +120,7 @@ impl Root {
             x: self.x,
             y: self.y,
             z: self.z,
-            side: power(self.k),
+            side: two_to(self.k),
             level: 0,
         }
     }
@@ -130,12 +130,12 @@ impl Root {
         requires { ⌜ inLimits self ≡ true ⌝ ∗ ⌜ level ≤ self .d ⌝ }
         ensures { λ r. ⌜ r ≡ cubeAt self place level ⌝ }
     {
-        let unit = power(self.k - self.d);
+        let unit = two_to(self.k - self.d);
         Cube {
             x: moved(self.x, corner(0, self.d, place) * unit),
             y: moved(self.y, corner(1, self.d, place) * unit),
             z: moved(self.z, corner(2, self.d, place) * unit),
-            side: power(self.k - level),
+            side: two_to(self.k - level),
             level,
         }
     }

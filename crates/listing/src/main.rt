@@ -100,7 +100,7 @@ fn leaf(root: Root, place: u32, leaf: Leaf) -> u32
     requires { ⌜ inLimits root ≡ true ⌝ ∗ ⌜ leaf .level ≤ root .d ⌝ ∗ ⌜ place + sizeOf (root .d) leaf ≤ 8 ^ root .d ⌝ }
     ensures { λ r. ⌜ r ≡ place + sizeOf (root .d) leaf ⌝ }
 {
-    let next = place + zonemap::power(root.d - leaf.level);
+    let next = place + zonemap::eight_to(root.d - leaf.level);
     let cube = root.cube_at(place, leaf.level);
     line(
         leaf.level as i64,

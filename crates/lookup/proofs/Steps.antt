@@ -8,7 +8,6 @@ use native.Mathlib.Omega.{arith}
 use lib.Dec.{eqb}
 use lib.ListN.{length, getD}
 use Rattle.integers.specs.First.{onFirst}
-use Rattle.integers.proofs.First.{none-first}
 use Rattle.integers.proofs.Order.{by-test}
 use Rattle.sheet.specs.declared.Record.{Record}
 use Rattle.sheet.specs.declared.Record.the-variants.{X}
@@ -29,10 +28,11 @@ use Rattle.cube.proofs.Places.{place-below, point-near, point-inside}
 use Rattle.zonemap.specs.declared.Leaf.{Leaf}
 use Rattle.zonemap.specs.declared.Header.{Header}
 use Rattle.zonemap.specs.declared.Header.the-variants.{Good as GoodHeader, Bad as BadHeader}
-use Rattle.zonemap.specs.declared.Opened.{Opened}
-use Rattle.zonemap.specs.declared.Opened.the-variants.{Good as GoodLeaves, Bad as BadLeaves}
+use Rattle.zonemap.specs.declared.Scanned.{Scanned}
+use Rattle.zonemap.specs.declared.Scanned.the-variants.{At, Bad as BadLeaves}
 use Rattle.zonemap.specs.Opening.{rootOf, leafIn, leavesOf, marked, leafAt, offsetAt, leavesFault, headerFault, faultOf}
 use Rattle.zonemap.proofs.Found.{header-sizes, found-inside, opens-parts, opens-sizes}
+use Rattle.zonemap.proofs.Opens.{header-bad, leaves-good, leaves-bad}
 use Rattle.colour.specs.declared.State.{State}
 use Rattle.colour.specs.declared.Judged.{Judged}
 use Rattle.colour.specs.declared.Judged.the-variants.{Known, Past}
@@ -57,36 +57,13 @@ module _ (s map : List ℕ) (p : Point) (c : Checked) (e : c ≡ checkOf s) wher
   good-sheet n r h k = rw (sym e ∙ h) k
 
 -- ---- reply 9
--- what an answer that the first of a list decides tells of the list
-module _ {A B : Type 0} (bad : ℕ → A) (good : B → A) (clash : (n : ℕ) (b : B) → bad n ≡ good b → ⊥) (bad-one : (n m : ℕ) → bad n ≡ bad m → n ≡ m) (good-one : (a b : B) → good a ≡ good b → a ≡ b) (b : B) where
-  decided-good : (ns : List ℕ) (c : B) → onFirst ns bad (good b) ≡ good c → (ns ≡ []) × (c ≡ b)
-  decided-good ns c e = let t = none-first (λ (a : A). a ≡ good c) bad (good b) ns (λ n. clash n c) e in (t .0, sym (good-one b c (t .1)))
-
-  decided-bad : (ns : List ℕ) (at : ℕ) → onFirst ns bad (good b) ≡ bad at → {C : Type 0} (f : ℕ → C) (rest : C) → onFirst ns f rest ≡ f at
-  decided-bad [] at e f rest = absurd (clash at b (sym e))
-  decided-bad (n ∷ ns) at e f rest = ap f (bad-one n at e)
-
-header-clash : (n : ℕ) (r : Root) → BadHeader n ≡ GoodHeader r → ⊥
-header-clash n r e = let z : _≡_ {A = ℕ} 0 1 = cc in omega arith
-
-leaves-clash : (n m : ℕ) → BadLeaves n ≡ GoodLeaves m → ⊥
-leaves-clash n m e = let z : _≡_ {A = ℕ} 0 1 = cc in omega arith
-
 map-bad : (rs : List Record) (map : List ℕ) (p : Point) (at : ℕ) → ((rest : Reply) → onFirst (faultOf (hasFace rs) map) Map rest ≡ Map at) → Map at ≡ mapReply rs map p
 unfolding mapReply
 map-bad rs map p at e = sym (e _)
 
 -- the bytes before the leaves
-module _ (map : List ℕ) (h : Header) (e : h ≡ onFirst (headerFault map) BadHeader (GoodHeader (rootOf map))) where
-  pub good-header : (root : Root) → h ≡ GoodHeader root → (headerFault map ≡ []) × (root ≡ rootOf map)
-  good-header root k = decided-good BadHeader GoodHeader header-clash (λ n m q. cc) (λ a b q. cc) (rootOf map) (headerFault map) root (sym e ∙ k)
-
-  pub bad-header : (rs : List Record) (p : Point) (at : ℕ) → h ≡ BadHeader at → Map at ≡ mapReply rs map p
-  unfolding faultOf
-  bad-header rs p at k =
-      let t =
-      decided-bad BadHeader GoodHeader header-clash (λ n m q. cc) (λ a b q. cc) (rootOf map) (headerFault map) at (sym e ∙ k) (λ (n : ℕ). n ∷ []) (leavesFault (hasFace rs) (rootOf map .d) 0 19 (leavesOf map)) in
-      map-bad rs map p at (λ rest. ap (λ (ns : List ℕ). onFirst ns Map rest) t)
+pub bad-header : (map : List ℕ) (h : Header) → h ≡ onFirst (headerFault map) BadHeader (GoodHeader (rootOf map)) → (rs : List Record) (p : Point) (at : ℕ) → h ≡ BadHeader at → Map at ≡ mapReply rs map p
+bad-header map h e rs p at k = map-bad rs map p at (header-bad map h e at k (hasFace rs) Map)
 
 module _ (map : List ℕ) (root : Root) (head : headerFault map ≡ []) (is : root ≡ rootOf map) where
   pub root-within : inLimits root ≡ true
@@ -113,16 +90,12 @@ module _ (map : List ℕ) (root : Root) (head : headerFault map ≡ []) (is : ro
       unfolding faultOf
       fault = rw (head, is, ← named)
 
-      module _ (place : ℕ) (there : place ≡ placeOrFirst root p) (o : Opened) (e : o ≡ onFirst faults BadLeaves (GoodLeaves (19 + 3 * leafAt (root .d) place 0 (leavesOf map)))) where
-        pub good-leaves : (at : ℕ) → o ≡ GoodLeaves at → (faultOf (hasFace rs) map ≡ []) × (at ≡ offsetAt map (placeOrFirst root p))
-        good-leaves at k =
-            let t = decided-good BadLeaves GoodLeaves leaves-clash (λ n m q. cc) (λ a b q. cc) _ faults at (sym e ∙ k) in
-            (fault ∙ t .0, t .1 ∙ rw (there, is))
+      module _ (place : ℕ) (there : place ≡ placeOrFirst root p) (o : Scanned) (e : o ≡ onFirst faults BadLeaves (At (19 + 3 * leafAt (root .d) place 0 (leavesOf map)))) where
+        pub good-leaves : (at : ℕ) → o ≡ At at → (faultOf (hasFace rs) map ≡ []) × (at ≡ offsetAt map (placeOrFirst root p))
+        good-leaves at k = let t = leaves-good faults _ o e at k in (fault ∙ t .0, t .1 ∙ rw (there, is))
 
         pub bad-leaves : (at : ℕ) → o ≡ BadLeaves at → Map at ≡ mapReply rs map p
-        bad-leaves at k =
-            map-bad rs map p at (λ rest.
-            ap (λ (ns : List ℕ). onFirst ns Map rest) fault ∙ decided-bad BadLeaves GoodLeaves leaves-clash (λ n m q. cc) (λ a b q. cc) _ faults at (sym e ∙ k) Map rest)
+        bad-leaves at k = map-bad rs map p at (λ rest. ap (λ (ns : List ℕ). onFirst ns Map rest) fault ∙ leaves-bad faults _ o e at k Map rest)
 
 -- ---- the place of a point: b is what the root's cube q answered
 module _ (root : Root) (p : Point) (q : Cube) (is : q ≡ rootCube root) (b : Bool) (e : b ≡ holdsPoint q p) where

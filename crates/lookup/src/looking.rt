@@ -19,7 +19,7 @@ use cube::Root;
 use sheet::Checked;
 use zonemap::Header;
 use zonemap::Leaf;
-use zonemap::Opened;
+use zonemap::Scanned;
 
 // Looks a position up in a zone map.
 pub fn lookup(sheet: &[u8], map: &[u8], x: i32, y: i32, z: i32) -> Reply
@@ -58,10 +58,10 @@ fn in_leaves(sheet: &[u8], count: usize, map: &[u8], root: Root, p: Point) -> Re
 {
     let faces = kinds::faces(sheet, count);
     match zonemap::find(map, &faces, root.d, place_or_first(root, p)) {
-        Opened::Good(at) => {
+        Scanned::At(at) => {
             return in_root(sheet, count, map, at, root, p);
         }
-        Opened::Bad(at) => {
+        Scanned::Bad(at) => {
             return Reply::Map(at);
         }
     }

@@ -1,13 +1,36 @@
 // The library's face to C and Rust: each call has the contract of the proved call behind it.
 
 ghost use mathlib.Core.Path.{_≡_};
-ghost use Rattle.zone.specs.Replies.{zoneOutcome, zoneBuildOf, zoneLookupOf};
+ghost use Rattle.zone.specs.Replies.{zoneCheckOf, zoneOutcome, zoneBuildOf, zoneOpenOf, zoneLookupOf};
+use sheet::Checked;
+use zonemap::Opened;
 
 // A reply by document 01's code and number.
 #[repr(C)]
 pub struct ZoneReply {
     pub code: u32,
     pub number: u64,
+}
+
+// Tests a zone sheet, and gives the number of its records.
+#[no_mangle]
+pub extern "C" fn zone_check(sheet: &[u8]) -> ZoneReply
+    ensures { λ r. ⌜ r ≡ zoneCheckOf (now (sheet .entry)) ⌝ }
+{
+    match sheet::check(sheet) {
+        Checked::Good(n) => {
+            return ZoneReply {
+                code: 0,
+                number: n as u64,
+            };
+        }
+        Checked::Refused(why) => {
+            return ZoneReply {
+                code: why.code(),
+                number: why.number() as u64,
+            };
+        }
+    }
 }
 
 // Builds the zone map of a sheet over a root at the start of `out`; where it refuses, `out` stays as it is.
@@ -27,6 +50,27 @@ pub extern "C" fn zone_build(
     ZoneReply {
         code: reply.code(),
         number: reply.number() as u64,
+    }
+}
+
+// Opens a zone map, whatever sheet it is of, and gives the number of its leaves.
+#[no_mangle]
+pub extern "C" fn zone_open(map: &[u8]) -> ZoneReply
+    ensures { λ r. ⌜ r ≡ zoneOpenOf (now (map .entry)) ⌝ }
+{
+    match zonemap::open(map) {
+        Opened::Good(n) => {
+            return ZoneReply {
+                code: 0,
+                number: n as u64,
+            };
+        }
+        Opened::Bad(at) => {
+            return ZoneReply {
+                code: 9,
+                number: at as u64,
+            };
+        }
     }
 }
 

@@ -38,7 +38,7 @@ holds-one d m p (suc i) (l ∷ ls) h =
     (ap suc (holds-one d m (p + sizeOf d l) i ls (record { among = omega (arith, h .among); from = omega (arith, h .from); till = omega (arith, h .till) })))
 
 -- ---- its bytes
-leaves-count : (s : List ℕ) (n at : ℕ) → length (leavesIn s n at) ≡ n
+pub leaves-count : (s : List ℕ) (n at : ℕ) → length (leavesIn s n at) ≡ n
 unfolding leavesIn
 leaves-count s zero at = refl
 leaves-count s (suc n) at = ap suc (leaves-count s n (at + 3))

@@ -4,6 +4,7 @@ pub mod Runs
 pub mod Tests
 pub mod Scan
 pub mod Found
+pub mod Opens
 pub mod Trip
 pub mod Rows
 pub mod Tiling

@@ -10,8 +10,8 @@ use lib.ListN.{length}
 use Rattle.integers.specs.First.{onFirst}
 use Rattle.integers.proofs.Order.{by-test}
 use Rattle.zonemap.specs.declared.Leaf.{Leaf}
-use Rattle.zonemap.specs.declared.Opened.{Opened}
-use Rattle.zonemap.specs.declared.Opened.the-variants.{Good, Bad}
+use Rattle.zonemap.specs.declared.Scanned.{Scanned}
+use Rattle.zonemap.specs.declared.Scanned.the-variants.{At, Bad}
 use Rattle.zonemap.specs.Opening.{leafIn, leavesIn, leavesFrom, leavesOf, sizeOf, leavesFault, leafAt}
 use Rattle.zonemap.proofs.Powers.{power-below}
 use Rattle.zonemap.proofs.Tests.{Sized, sized-good, sized-bad, sized-room}
@@ -53,8 +53,8 @@ pub record Scan (named : ℕ → Bool) (s : List ℕ) (d m place at found : ℕ)
 
 module _ (named : ℕ → Bool) (s : List ℕ) (d m : ℕ) where
   -- what `find` answers
-  abbrev Answer : Opened
-  Answer = onFirst (leavesFault named d 0 19 (leavesOf s)) Bad (Good (19 + 3 * leafAt d m 0 (leavesOf s)))
+  abbrev Answer : Scanned
+  Answer = onFirst (leavesFault named d 0 19 (leavesOf s)) Bad (At (19 + 3 * leafAt d m 0 (leavesOf s)))
 
   pub scan-start : d ≤ 10 → length s % 3 ≡ 1 → Scan named s d m 0 19 19
   scan-start h e =
@@ -91,7 +91,7 @@ module _ (named : ℕ → Bool) (s : List ℕ) (d m : ℕ) where
       scan-short k = rw (← i .same-fault, no-more s at h, ne-eqb place (8 ^ d) (λ z. omega arith))
 
       -- no leaf ends past 8^d, so that the sum is 8^d where it is not less
-      pub scan-good : m < 8 ^ d → 8 ^ d ≤ place → Good found ≡ Answer
+      pub scan-good : m < 8 ^ d → 8 ^ d ≤ place → At found ≡ Answer
       unfolding leavesFault
       scan-good k n =
           rw (← i .same-fault, no-more s at h, eq-eqb place (8 ^ d) (omega (arith, i .room)), ← i .same-leaf, lt-leb place m (omega arith))

@@ -119,7 +119,7 @@ module _ (named : ℕ → Bool) (l : Leaf) where
 pub size-some : (n s : ℕ) → s ≡ 8 ^ n → 0 < s
 size-some n s e = omega (arith, one-le-pow n 8 (zero-lt-suc 7))
 
--- size_in_place: s is what `power` answered of n
+-- size_in_place: s is what `eight_to` answered of n
 module _ (d p n s : ℕ) (e : s ≡ 8 ^ n) where
   abbrev Placed : ℕ
   Placed = cond (eqb (p % 8 ^ n) 0 && leb (p + 8 ^ n) (8 ^ d)) (8 ^ n) 0

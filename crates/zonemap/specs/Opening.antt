@@ -1,6 +1,6 @@
 -- Opening a map: whether its bytes are one, and else the offset of the first fault. Assumes nothing: these are definitions.
 use Prim.Native.Nat.{ℕ, zero, suc, _+_, _-_, _*_, _/_, _%_, _^_}
-use mathlib.Core.Bool.{Bool, cond, not, _&&_, _||_}
+use mathlib.Core.Bool.{Bool, true, cond, not, _&&_, _||_}
 use mathlib.Core.List.{List, [], _∷_}
 use lib.Dec.{eqb, leb, ltb}
 use lib.ListN.{length, getD}
@@ -9,6 +9,8 @@ use Rattle.bigendian.specs.Numbers.{unsignedAt, signedAt}
 use Rattle.cube.specs.declared.Root.{Root}
 use Rattle.cube.specs.Limits.{inLimits}
 use Rattle.zonemap.specs.declared.Leaf.{Leaf}
+use Rattle.zonemap.specs.declared.Opened.{Opened}
+use Rattle.zonemap.specs.declared.Opened.the-variants.{Good, Bad}
 use Rattle.zonemap.specs.Map.{mapVersion}
 
 -- ---- the bytes
@@ -79,6 +81,14 @@ headerFault s =
 -- of a whole map, where `named` says which face numbers a terminal leaf may have
 unfoldable pub faultOf : (ℕ → Bool) → List ℕ → List ℕ
 faultOf named s = onFirst (headerFault s) (λ at. at ∷ []) (leavesFault named (rootOf s .d) 0 19 (leavesOf s))
+
+-- opening without a sheet, so that a terminal leaf may name any face
+abbrev pub anyFace : ℕ → Bool
+anyFace f = true
+
+-- how many leaves a map has, or its first fault
+unfoldable pub openOf : List ℕ → Opened
+openOf s = onFirst (faultOf anyFace s) Bad (Good (length (leavesOf s)))
 
 -- ---- the leaf that holds a place
 -- the number of the leaf, where the first is at place p

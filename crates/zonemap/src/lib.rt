@@ -3,9 +3,10 @@
 mod opening;
 
 use cube::Root;
+pub use opening::eight_to;
 pub use opening::find;
 pub use opening::leaf_at;
-pub use opening::power;
+pub use opening::open;
 pub use opening::read_header;
 ghost use mathlib.Core.Path.{_≡_};
 ghost use Prim.Native.Nat.{_+_, _≤_, _^_};
@@ -27,6 +28,12 @@ pub enum Header {
 }
 
 // What the leaves tell: the offset of the leaf that holds a place, or that of the first fault.
+pub enum Scanned {
+    At(usize),
+    Bad(usize),
+}
+
+// What opening tells: how many leaves the map has, or the offset of its first fault.
 pub enum Opened {
     Good(usize),
     Bad(usize),

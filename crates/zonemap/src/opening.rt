@@ -2,16 +2,18 @@
 
 ghost use mathlib.Core.Path.{_≡_};
 ghost use mathlib.Core.Bool.{cond, _&&_};
+ghost use mathlib.Core.List.{[]};
 ghost use Prim.Native.Nat.{_+_, _-_, _*_, _%_, _≤_, _<_, _^_};
 ghost use lib.Dec.{eqb, leb};
 ghost use lib.ListN.{length};
 ghost use Rattle.integers.specs.First.{onFirst};
 ghost use Rattle.zonemap.specs.declared.Header.the-variants.{Good as GoodHeader, Bad as BadHeader};
-ghost use Rattle.zonemap.specs.declared.Opened.the-variants.{Good, Bad};
-ghost use Rattle.zonemap.specs.Opening.{lengthGood, rootOf, leafIn, leavesOf, levelGood, faceGood, marked, leafGood, sizeOf, leavesFault, headerFault, leafAt};
+ghost use Rattle.zonemap.specs.declared.Scanned.the-variants.{At, Bad};
+ghost use Rattle.zonemap.specs.Opening.{lengthGood, rootOf, leafIn, leavesOf, levelGood, faceGood, marked, leafGood, sizeOf, leavesFault, headerFault, leafAt, openOf};
 use crate::Header;
 use crate::Leaf;
 use crate::Opened;
+use crate::Scanned;
 use cube::Root;
 
 // Whether the length agrees and is 15 + 3n.
@@ -72,7 +74,7 @@ pub fn leaf_at(map: &[u8], at: usize) -> Leaf
 }
 
 // 8 to the power n: how many smallest cubes a cube has that n levels are below.
-pub fn power(n: u8) -> u32
+pub fn eight_to(n: u8) -> u32
     requires { ⌜ n ≤ 10 ⌝ }
     ensures { λ r. ⌜ r ≡ 8 ^ n ⌝ }
 {
@@ -109,9 +111,9 @@ fn size_in_place(d: u8, place: u32, n: u8) -> u32
     requires { ⌜ d ≤ 10 ⌝ ∗ ⌜ place ≤ 2 ^ 30 ⌝ ∗ ⌜ n ≤ 10 ⌝ }
     ensures { λ r. ⌜ r ≡ cond (eqb (place % 8 ^ n) 0 && leb (place + 8 ^ n) (8 ^ d)) (8 ^ n) 0 ⌝ }
 {
-    let size = power(n);
+    let size = eight_to(n);
     if place % size == 0 {
-        if place + size <= power(d) {
+        if place + size <= eight_to(d) {
             return size;
         }
         return 0;
@@ -144,9 +146,9 @@ fn last_before(place: u32, m: u32, at: usize, found: usize) -> usize
 }
 
 // The offset of the leaf that holds place m, or that of the first fault of the leaves. A terminal leaf may name the faces that are marked with 1.
-pub fn find(map: &[u8], faces: &[u8], d: u8, m: u32) -> Opened
+pub fn find(map: &[u8], faces: &[u8], d: u8, m: u32) -> Scanned
     requires { ⌜ d ≤ 10 ⌝ ∗ ⌜ 19 ≤ length (now map) ⌝ ∗ ⌜ length (now map) % 3 ≡ 1 ⌝ ∗ ⌜ length (now faces) ≡ 256 ⌝ ∗ ⌜ m < 8 ^ d ⌝ }
-    ensures { λ r. ⌜ r ≡ onFirst (leavesFault (marked (now (faces .entry))) d 0 19 (leavesOf (now (map .entry)))) Bad (Good (19 + 3 * leafAt d m 0 (leavesOf (now (map .entry))))) ⌝ }
+    ensures { λ r. ⌜ r ≡ onFirst (leavesFault (marked (now (faces .entry))) d 0 19 (leavesOf (now (map .entry)))) Bad (At (19 + 3 * leafAt d m 0 (leavesOf (now (map .entry))))) ⌝ }
 {
     let mut place: u32 = 0;
     let mut at: usize = 19;
@@ -154,14 +156,44 @@ pub fn find(map: &[u8], faces: &[u8], d: u8, m: u32) -> Opened
     while at < map.len() {
         let size = good_size(faces, d, place, leaf_at(map, at));
         if size == 0 {
-            return Opened::Bad(at);
+            return Scanned::Bad(at);
         }
         found = last_before(place, m, at, found);
         place += size;
         at += 3;
     }
-    if place < power(d) {
-        return Opened::Bad(at);
+    if place < eight_to(d) {
+        return Scanned::Bad(at);
     }
-    Opened::Good(found)
+    Scanned::At(found)
+}
+
+// How many leaves a map has, whose terminal leaves may name any face, or the offset of its first fault.
+pub fn open(map: &[u8]) -> Opened
+    ensures { λ r. ⌜ r ≡ openOf (now (map .entry)) ⌝ }
+{
+    match read_header(map) {
+        Header::Good(root) => {
+            return open_leaves(map, root);
+        }
+        Header::Bad(at) => {
+            return Opened::Bad(at);
+        }
+    }
+}
+
+// The leaves of a map whose header is good. Any place will do for the scan, since no leaf is asked for.
+fn open_leaves(map: &[u8], root: Root) -> Opened
+    requires { ⌜ headerFault (now map) ≡ [] ⌝ ∗ ⌜ root ≡ rootOf (now map) ⌝ }
+    ensures { λ r. ⌜ r ≡ openOf (now (map .entry)) ⌝ }
+{
+    let every_face = [1u8; 256];
+    match find(map, &every_face, root.d, 0) {
+        Scanned::At(_) => {
+            return Opened::Good((map.len() - 19) / 3);
+        }
+        Scanned::Bad(at) => {
+            return Opened::Bad(at);
+        }
+    }
 }

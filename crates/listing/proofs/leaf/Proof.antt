@@ -6,15 +6,15 @@ use borrow.Author.Needs.{needs}
 use Rattle.listing.proofs.leaf.Statement.{statement}
 use Rattle.listing.proofs.leaf.Tie as tie
 
-sub-power : tie.Need-sub-power
-sub-power c = search needs
+sub-eight-to : tie.Need-sub-eight-to
+sub-eight-to c = search needs
 
-power-requires : tie.Need-power-requires
-power-requires c κs = leaf-few _ (c .before .before .pre .0) (c .before .before .args .leaf)
+eight-to-requires : tie.Need-eight-to-requires
+eight-to-requires c κs = leaf-few _ (c .before .before .pre .0) (c .before .before .args .leaf)
 
 add-next : tie.Need-add-next
 add-next c =
-    record { fits = omega (arith, c .power .ensures, leaf-room _ (c .before .before .before .pre .0) (c .before .before .before .args .leaf) (c .before .before .before .args .place) (c .before .before .before .pre .1 .1)) }
+    record { fits = omega (arith, c .eight-to .ensures, leaf-room _ (c .before .before .before .pre .0) (c .before .before .before .args .leaf) (c .before .before .before .args .place) (c .before .before .before .pre .1 .1)) }
 
 cube-at-requires : tie.Need-cube-at-requires
 cube-at-requires c κs = search needs
@@ -47,8 +47,8 @@ pub leaf-spec : {M : Type 1} → statement M
 leaf-spec =
     tie.close
     (tie.spec
-    sub-power
-    power-requires
+    sub-eight-to
+    eight-to-requires
     add-next
     cube-at-requires
     cast-line

@@ -1,7 +1,7 @@
 -- `zone::zone_build` meets its contract: it is `build::build` with the reply by number. Assumes nothing.
 use mathlib.Core.Path.{ap}
 use mir.Facts.{toZ-ofZ}
-use Rattle.zone.specs.Replies.{byNumber, zoneBuildOf}
+use Rattle.zone.specs.Replies.{builtByNumber, zoneBuildOf}
 use borrow.Author.Needs.{needs}
 use Rattle.zone.proofs.zone_build.Statement.{statement}
 use Rattle.zone.proofs.zone_build.Tie as tie
@@ -21,7 +21,7 @@ same-length c = search needs
 returns : tie.Need-returns
 unfolding zoneBuildOf
 returns c =
-    rw (c .before .code .ensures, c .number .ensures) (ap byNumber (rw (toZ-ofZ (c .before .before .before .before .before .before .before .before .fits .x), toZ-ofZ (c .before .before .before .before .before .before .before .before .fits .y), toZ-ofZ (c .before .before .before .before .before .before .before .before .fits .z)) at (c .before .before .before .before .build .ensures)))
+    rw (c .before .code .ensures, c .number .ensures) (ap builtByNumber (rw (toZ-ofZ (c .before .before .before .before .before .before .before .before .fits .x), toZ-ofZ (c .before .before .before .before .before .before .before .before .fits .y), toZ-ofZ (c .before .before .before .before .before .before .before .before .fits .z)) at (c .before .before .before .before .build .ensures)))
 
 pub zone-build-spec : {M : Type 1} → statement M
 zone-build-spec =

@@ -4,11 +4,11 @@ use borrow.Author.Needs.{needs}
 use Rattle.cube.proofs.Root.cube.Statement.{statement}
 use Rattle.cube.proofs.Root.cube.Tie as tie
 
-power-requires : tie.Need-power-requires
-power-requires c κs = search needs
+two-to-requires : tie.Need-two-to-requires
+two-to-requires c κs = search needs
 
 returns : tie.Need-returns
 returns c = search (needs, root-told)
 
 pub cube-spec : {M : Type 1} → statement M
-cube-spec = tie.close (tie.spec power-requires returns)
+cube-spec = tie.close (tie.spec two-to-requires returns)

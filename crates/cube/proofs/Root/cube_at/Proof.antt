@@ -5,11 +5,11 @@ use Rattle.cube.proofs.Cubes.{at-sizes, at-level, at-deep, at-side, at-
 use Rattle.cube.proofs.Root.cube_at.Statement.{statement}
 use Rattle.cube.proofs.Root.cube_at.Tie as tie
 
-sub-power : tie.Need-sub-power
-sub-power c = search (needs, at-sizes)
+sub-two-to : tie.Need-sub-two-to
+sub-two-to c = search (needs, at-sizes)
 
-power-requires : tie.Need-power-requires
-power-requires c κs = search (needs, at-side)
+two-to-requires : tie.Need-two-to-requires
+two-to-requires c κs = search (needs, at-side)
 
 corner-requires : tie.Need-corner-requires
 corner-requires c κs = search (needs, at-deep)
@@ -38,11 +38,11 @@ mul-moved-3 c = search (needs, at-fits)
 moved-requires-3 : tie.Need-moved-requires-3
 moved-requires-3 c κs = search (needs, at-room, near-z)
 
-sub-power-2 : tie.Need-sub-power-2
-sub-power-2 c = search (needs, at-level)
+sub-two-to-2 : tie.Need-sub-two-to-2
+sub-two-to-2 c = search (needs, at-level)
 
-power-requires-2 : tie.Need-power-requires-2
-power-requires-2 c κs = search (needs, at-side)
+two-to-requires-2 : tie.Need-two-to-requires-2
+two-to-requires-2 c κs = search (needs, at-side)
 
 returns : tie.Need-returns
 returns c = search (needs, at-told, low-told)
@@ -51,8 +51,8 @@ pub cube-at-spec : {M : Type 1} → statement M
 cube-at-spec =
     tie.close
     (tie.spec
-    sub-power
-    power-requires
+    sub-two-to
+    two-to-requires
     corner-requires
     mul-moved
     moved-requires
@@ -62,6 +62,6 @@ cube-at-spec =
     corner-requires-3
     mul-moved-3
     moved-requires-3
-    sub-power-2
-    power-requires-2
+    sub-two-to-2
+    two-to-requires-2
     returns)

@@ -7,8 +7,8 @@ use Rattle.cube.proofs.Root.is_within.Tie as tie
 sizes-fit-requires : tie.Need-sizes-fit-requires
 sizes-fit-requires c κs = search needs
 
-power-requires : tie.Need-power-requires
-power-requires c κs = search (needs, side-small)
+two-to-requires : tie.Need-two-to-requires
+two-to-requires c κs = search (needs, side-small)
 
 axis-fits-requires : tie.Need-axis-fits-requires
 axis-fits-requires c κs = search needs
@@ -36,7 +36,7 @@ is-within-spec =
     tie.close
     (tie.spec
     sizes-fit-requires
-    power-requires
+    two-to-requires
     axis-fits-requires
     axis-fits-requires-2
     axis-fits-requires-3

@@ -1,5 +1,6 @@
 -- `lookup::looking::in_map` meets its contract: the bytes before the leaves come before the leaves. Assumes nothing.
-use Rattle.lookup.proofs.Steps.{good-header, bad-header}
+use Rattle.zonemap.proofs.Opens.{header-good}
+use Rattle.lookup.proofs.Steps.{bad-header}
 use borrow.Author.Needs.{needs}
 use Rattle.lookup.proofs.looking.in_map.Statement.{statement}
 use Rattle.lookup.proofs.looking.in_map.Tie as tie
@@ -12,7 +13,7 @@ enum-known-root c = search needs
 
 in-leaves-requires : tie.Need-in-leaves-requires
 in-leaves-requires c κs =
-    (c .before .before .before .before .before .before .pre, (good-header _ _ (c .before .before .before .read-header .ensures) _ (c .before .root .given .1) .0, good-header _ _ (c .before .before .before .read-header .ensures) _ (c .before .root .given .1) .1))
+    (c .before .before .before .before .before .before .pre, (header-good _ _ (c .before .before .before .read-header .ensures) _ (c .before .root .given .1) .0, header-good _ _ (c .before .before .before .read-header .ensures) _ (c .before .root .given .1) .1))
 
 returns : tie.Need-returns
 returns c = search needs

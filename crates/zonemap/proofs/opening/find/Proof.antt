@@ -46,16 +46,16 @@ loop-again : tie.Need-loop-again Inv-loop μ-loop
 loop-again c =
     scan-on _ _ _ _ _ _ _ (c .before .before .before .before .before .loop .inv) _ (c .before .before .before .leaf-at .ensures) _ (c .before .before .good-size .ensures) (c .before .before .before .before .loop-test .taken) _ (c .before .if1 .left) (c .last-before .ensures)
 
-power-requires : tie.Need-power-requires Inv-loop μ-loop
-power-requires c κs = c .before .before .before .before .pre .0
+eight-to-requires : tie.Need-eight-to-requires Inv-loop μ-loop
+eight-to-requires c κs = c .before .before .before .before .pre .0
 
 returns-2 : tie.Need-returns-2 Inv-loop μ-loop
 returns-2 c =
-    scan-short _ _ _ _ _ _ _ (c .before .before .before .loop .inv) (c .before .before .loop-test .left) (omega (arith, c .before .power .ensures, c .if2 .taken, c .before .before .before .loop .inv .room))
+    scan-short _ _ _ _ _ _ _ (c .before .before .before .loop .inv) (c .before .before .loop-test .left) (omega (arith, c .before .eight-to .ensures, c .if2 .taken, c .before .before .before .loop .inv .room))
 
 returns-3 : tie.Need-returns-3 Inv-loop μ-loop
 returns-3 c =
-    scan-good _ _ _ _ _ _ _ (c .before .before .before .loop .inv) (c .before .before .loop-test .left) (c .before .before .before .before .before .before .pre .1 .1 .1 .1) (omega (arith, c .before .power .ensures, c .if2 .left, c .before .before .before .loop .inv .room))
+    scan-good _ _ _ _ _ _ _ (c .before .before .before .loop .inv) (c .before .before .loop-test .left) (c .before .before .before .before .before .before .pre .1 .1 .1 .1) (omega (arith, c .before .eight-to .ensures, c .if2 .left, c .before .before .before .loop .inv .room))
 
 pub find-spec : {M : Type 1} → statement M
 find-spec =
@@ -72,6 +72,6 @@ find-spec =
     add-at
     loop-less
     loop-again
-    power-requires
+    eight-to-requires
     returns-2
     returns-3)

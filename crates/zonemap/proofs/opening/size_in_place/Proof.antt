@@ -5,31 +5,31 @@ use borrow.Author.Needs.{needs}
 use Rattle.zonemap.proofs.opening.size_in_place.Statement.{statement}
 use Rattle.zonemap.proofs.opening.size_in_place.Tie as tie
 
-power-requires : tie.Need-power-requires
-power-requires c κs = search needs
+eight-to-requires : tie.Need-eight-to-requires
+eight-to-requires c κs = search needs
 
 rem-if1 : tie.Need-rem-if1
-rem-if1 c = size-some _ _ (c .power .ensures)
+rem-if1 c = size-some _ _ (c .eight-to .ensures)
 
 add-if2 : tie.Need-add-if2
-add-if2 c = omega (arith, power-small _ _ (c .before .power .ensures) (c .before .before .pre .1 .1))
+add-if2 c = omega (arith, power-small _ _ (c .before .eight-to .ensures) (c .before .before .pre .1 .1))
 
-power-requires-2 : tie.Need-power-requires-2
-power-requires-2 c κs = search needs
+eight-to-requires-2 : tie.Need-eight-to-requires-2
+eight-to-requires-2 c κs = search needs
 
 returns : tie.Need-returns
 returns c =
-    place-yes (c .before .before .before .before .args .d) (c .before .before .before .before .args .place) (c .before .before .before .before .args .n) _ (c .before .before .before .power .ensures) (c .before .before .if1 .taken) (omega (arith, c .before .power2 .ensures, c .if2 .taken))
+    place-yes (c .before .before .before .before .args .d) (c .before .before .before .before .args .place) (c .before .before .before .before .args .n) _ (c .before .before .before .eight-to .ensures) (c .before .before .if1 .taken) (omega (arith, c .before .eight-to2 .ensures, c .if2 .taken))
 
 returns-2 : tie.Need-returns-2
 returns-2 c =
-    place-over (c .before .before .before .before .args .d) (c .before .before .before .before .args .place) (c .before .before .before .before .args .n) _ (c .before .before .before .power .ensures) (c .before .before .if1 .taken) (omega (arith, c .before .power2 .ensures, c .if2 .left))
+    place-over (c .before .before .before .before .args .d) (c .before .before .before .before .args .place) (c .before .before .before .before .args .n) _ (c .before .before .before .eight-to .ensures) (c .before .before .if1 .taken) (omega (arith, c .before .eight-to2 .ensures, c .if2 .left))
 
 returns-3 : tie.Need-returns-3
 returns-3 c =
-    place-off (c .before .before .args .d) (c .before .before .args .place) (c .before .before .args .n) _ (c .before .power .ensures) (c .if1 .left)
+    place-off (c .before .before .args .d) (c .before .before .args .place) (c .before .before .args .n) _ (c .before .eight-to .ensures) (c .if1 .left)
 
 pub size-in-place-spec : {M : Type 1} → statement M
 size-in-place-spec =
     tie.close
-    (tie.spec power-requires rem-if1 add-if2 power-requires-2 returns returns-2 returns-3)
+    (tie.spec eight-to-requires rem-if1 add-if2 eight-to-requires-2 returns returns-2 returns-3)

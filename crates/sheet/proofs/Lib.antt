@@ -2,6 +2,7 @@ pub mod Rows
 pub mod Walk
 pub mod Arrays
 pub mod Sorting
+pub mod Unmet
 pub mod Replies
 pub mod Along
 pub mod Good

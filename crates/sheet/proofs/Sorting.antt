@@ -23,7 +23,7 @@ use Rattle.sheet.specs.Check.{solidOf, sortedOf}
 use Rattle.sheet.proofs.Walk.{At, at-start, here, found-number, found-record, rest-is, at-next, all-read}
 use Rattle.sheet.proofs.Arrays.{Reads, reads-more}
 
-map-append : (xs : List Record) (r : Record) → map sortOf (xs ++ r ∷ []) ≡ map sortOf xs ++ sortOf r ∷ []
+pub map-append : (xs : List Record) (r : Record) → map sortOf (xs ++ r ∷ []) ≡ map sortOf xs ++ sortOf r ∷ []
 map-append [] r = refl
 map-append (x ∷ xs) r = ap (λ l. sortOf x ∷ l) (map-append xs r)
 

@@ -61,6 +61,23 @@ module _ (Each : ℕ → Leaf → Type 0) (d : ℕ) where
       let z : p + (sizeOf d l + placeAt d i ls) ≡ p + sizeOf d l + placeAt d i ls = omega arith in
       rw z (run-at (p + sizeOf d l) e i ls (r .1) (omega arith))
 
+  -- and it ends where the sizes of all leaves add up to
+  pub run-end : (p e : ℕ) (ls : List Leaf) → Run Each d p ls e → p + placeAt d (length ls) ls ≡ e
+  unfolding Run placeAt
+  run-end p e [] r = omega (arith, r)
+  run-end p e (l ∷ ls) r = omega (arith, run-end (p + sizeOf d l) e ls (r .1))
+
+  -- leaves of which each is so at its own place are a run
+  pub at-run : (p e : ℕ) (ls : List Leaf) → ((i : ℕ) → i < length ls → Each (p + placeAt d i ls) (getD ls i nowhere)) → p + placeAt d (length ls) ls ≡ e → Run Each d p ls e
+  unfolding Run placeAt
+  at-run p e [] h k = omega (arith, k)
+  at-run p e (l ∷ ls) h k = (
+    let z : p + 0 ≡ p = omega arith in rw z at (h 0 (omega arith)),
+    at-run (p + sizeOf d l) e ls
+        (λ i m. let z : p + (sizeOf d l + placeAt d i ls) ≡ p + sizeOf d l + placeAt d i ls = omega arith in rw z at (h (suc i) (omega arith)))
+        (omega (arith, k)),
+  )
+
 -- ---- opening is a run
 -- good at its place
 abbrev pub Fine : (ℕ → Bool) → ℕ → ℕ → Leaf → Type 0

@@ -9,9 +9,9 @@ use Rattle.sheet.specs.declared.Record.{Record}
 use Rattle.sheet.specs.declared.Record.the-variants.{Constant, X, Difference, Product, Square}
 use Rattle.sheet.specs.Along.{along, onward}
 use Rattle.cube.specs.declared.Cube.{Cube}
-use Rattle.colour.specs.declared.State.the-variants.{In, Out, Single, Mixed}
+use Rattle.colour.specs.declared.State.the-variants.{In, Out, Single, Comp, Mixed}
 use Rattle.colour.specs.Bounds.{across, boundsOf}
-use Rattle.colour.specs.States.{faceState, bothOf, stateOf}
+use Rattle.colour.specs.States.{faceState, complementOf, bothOf, eitherOf, stateOf}
 use Rattle.colour.specs.Entries.{blank, entryOf, entries}
 
 -- x(10-x) over x from 4 to 6: [16, 36]
@@ -59,3 +59,15 @@ left-row = refl
 pub two-left-row : bothOf (Single 5) (Single 6) ≡ Mixed
 unfolding bothOf
 two-left-row = refl
+
+-- In and Out change places; Single(f) and Comp(f) change places
+pub complement-in-row : complementOf In ≡ Out
+complement-in-row = refl
+
+pub complement-single-row : complementOf (Single 5) ≡ Comp 5
+complement-single-row = refl
+
+-- a face that holds nowhere in the cube leaves the other by itself
+pub either-left-row : eitherOf Out (Single 6) ≡ Single 6
+unfolding eitherOf
+either-left-row = refl

@@ -99,10 +99,10 @@ impl State {
             return State::In;
         }
         if self.is_out() {
-            return other;
+            return other; // this one holds nowhere
         }
         if other.is_out() {
-            return self;
+            return self; // the other holds nowhere
         }
         State::Mixed
     }

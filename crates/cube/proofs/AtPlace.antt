@@ -52,7 +52,7 @@ corner-within axis (suc n) (suc d) c p h l u =
 -- one axis of a point: half of it is that of the halves, and its last bit is that axis's bit of the child number
 module _ (axis : ℕ) (pick : ℕ → ℕ → ℕ → ℕ) (halved : (x y z : ℕ) → pick (x / 2) (y / 2) (z / 2) ≡ pick x y z / 2) (bit : (x y z : ℕ) → half axis (x % 2 + 2 * (y % 2) + 4 * (z % 2)) ≡ pick x y z % 2) where
   -- the corner of a point's place is the point
-  corner-place : (d x y z : ℕ) → pick x y z < 2 ^ d → cornerOf axis d (placeBy d x y z) ≡ pick x y z
+  pub corner-place : (d x y z : ℕ) → pick x y z < 2 ^ d → cornerOf axis d (placeBy d x y z) ≡ pick x y z
   unfolding cornerOf placeBy
   corner-place zero x y z h = omega arith
   corner-place (suc d) x y z h =
@@ -66,7 +66,7 @@ module _ (axis : ℕ) (pick : ℕ → ℕ → ℕ → ℕ) (halved : (x y z : �
   pick-within n d c x y z h b l u = rw (corner-place d x y z b) at (corner-within axis n d c _ h l u)
 
 -- the place of a corner is the place
-place-corner : (d p : ℕ) → p < 8 ^ d → placeBy d (cornerOf 0 d p) (cornerOf 1 d p) (cornerOf 2 d p) ≡ p
+pub place-corner : (d p : ℕ) → p < 8 ^ d → placeBy d (cornerOf 0 d p) (cornerOf 1 d p) (cornerOf 2 d p) ≡ p
 unfolding cornerOf placeBy
 place-corner zero p h = omega arith
 place-corner (suc d) p h = rw (corner-half 0 d p, corner-half 1 d p, corner-half 2 d p) (omega (arith, place-corner d (p / 8) (omega arith)))

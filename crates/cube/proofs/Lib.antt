@@ -4,4 +4,8 @@ pub mod Corners
 pub mod Cubes
 pub mod Places
 pub mod AtPlace
+pub mod Children
+pub mod Inverse
+pub mod InRoot
+pub mod Numbers
 pub mod Rows

@@ -2,7 +2,7 @@
 use Prim.Native.Nat.{ℕ, zero, suc, _+_, _-_, _*_, _/_, _%_, _^_}
 use mathlib.Core.Bool.{Bool, _&&_}
 use lib.IntN.{ℤ, pos, natAbs, _+ℤ_, _-ℤ_}
-use lib.Signed.{leZ, ltZ, _≤ℤ_}
+use lib.Signed.{leZ, ltZ, _≤ℤ_, _<ℤ_}
 use Rattle.cube.specs.declared.Point.{Point}
 use Rattle.cube.specs.declared.Root.{Root}
 use Rattle.cube.specs.declared.Cube.{Cube}
@@ -13,6 +13,15 @@ axisHolds low side v = leZ low v && ltZ v (low +ℤ pos side)
 
 unfoldable pub holdsPoint : Cube → Point → Bool
 holdsPoint q p = axisHolds (q .x) (q .side) (p .x) && axisHolds (q .y) (q .side) (p .y) && axisHolds (q .z) (q .side) (p .z)
+
+-- The root has a low corner X, Y, Z and side 2^k: a point is in it, high planes left out. (Written out, and not by the root as a cube, which is judged by this.)
+pub record InRoot (r : Root) (p : Point) : Type 0 where
+  pub x-low : r .x ≤ℤ p .x
+  pub x-high : p .x <ℤ (r .x +ℤ pos (2 ^ r .k))
+  pub y-low : r .y ≤ℤ p .y
+  pub y-high : p .y <ℤ (r .y +ℤ pos (2 ^ r .k))
+  pub z-low : r .z ≤ℤ p .z
+  pub z-high : p .z <ℤ (r .z +ℤ pos (2 ^ r .k))
 
 -- a point is a cube of side 0
 unfoldable pub pointCube : Point → Cube

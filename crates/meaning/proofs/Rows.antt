@@ -1,17 +1,24 @@
--- The step room at points, worked out from the definitions. Assumes nothing.
+-- Sheets at points of fractions, the step room first, worked out from the definitions. Assumes nothing.
 use mathlib.Core.Path.{_≡_, refl}
 use mathlib.Core.Bool.{true, false}
 use Prim.Native.Nat.{ℕ, suc}
 use native.Mathlib.Nat.{zero-lt-suc}
+use mathlib.Core.List.{List, [], _∷_}
 use lib.IntN.{pos}
+use Rattle.sheet.specs.declared.Record.{Record}
+use Rattle.sheet.specs.declared.Record.the-variants.{Constant, X, Y, Z, Sum, Difference, Product, Square, Face, Either, Complement}
 use Rattle.sheet.specs.Along.{along, onward}
 use Rattle.sheet.proofs.StepRoom.{stepRecords}
 use Rattle.meaning.specs.Fractions.{FractionalPoint}
 use Rattle.meaning.specs.Truth.{valueOf, holdsOf, meantOf, holdsAt, inSolid}
 
--- the point x/n, y/n, 0 with n = m + 1
+-- the point x/n, y/n, z/n with n = m + 1
+abbrev point : ℕ → ℕ → ℕ → ℕ → FractionalPoint
+point x y z m = record { x = pos x; y = pos y; z = pos z; n = suc m; positive = zero-lt-suc m }
+
+-- the point x/n, y/n, 0
 abbrev at : ℕ → ℕ → ℕ → FractionalPoint
-at x y m = record { x = pos x; y = pos y; z = pos 0; n = suc m; positive = zero-lt-suc m }
+at x y m = point x y 0 m
 
 record Rows : Type 0 where
   -- x at most 2 and y at most 2: (2, 2, 0) is on both faces
@@ -28,3 +35,36 @@ record Rows : Type 0 where
 rows : Rows
 unfolding inSolid holdsAt along onward meantOf valueOf holdsOf
 rows = record { corner = refl; same = refl; past = refl; other = refl; before = refl }
+
+-- ---- the other kinds, at halves and thirds
+-- the records of a value, and after them a face: the value, which is that of the record of this number, is at most c
+abbrev atMost : List Record → ℕ → ℕ → List Record
+atMost [] value c = Constant (pos c) ∷ Difference value (suc value) ∷ Face (suc (suc value)) ∷ []
+atMost (r ∷ rs) value c = r ∷ atMost rs value c
+
+record KindRows : Type 0 where
+  -- z at most 1, at 3/2
+  z-past : inSolid (atMost (Z ∷ []) 0 1) (point 0 0 3 1) ≡ false
+  -- 1/3 + 2/3 is on the face x + y at most 1, and 2/3 + 2/3 past it
+  sum-on : inSolid (atMost (X ∷ Y ∷ Sum 0 1 ∷ []) 2 1) (at 1 2 2) ≡ true
+  sum-past : inSolid (atMost (X ∷ Y ∷ Sum 0 1 ∷ []) 2 1) (at 2 2 2) ≡ false
+  -- 3/2 times 2/3, which are 9/6 and 4/6
+  product-on : inSolid (atMost (X ∷ Y ∷ Product 0 1 ∷ []) 2 1) (at 9 4 5) ≡ true
+  -- the square of 3/2 is more than 2
+  square-past : inSolid (atMost (X ∷ Square 0 ∷ []) 1 2) (at 3 0 1) ≡ false
+  -- x at most 0 or y at most 0, at (1/2, 0, 0)
+  either-one : inSolid (X ∷ Y ∷ Face 0 ∷ Face 1 ∷ Either 2 3 ∷ []) (at 1 0 1) ≡ true
+  -- not x at most 0, on the face
+  complement-on : inSolid (X ∷ Face 0 ∷ Complement 1 ∷ []) (at 0 0 2) ≡ false
+
+kind-rows : KindRows
+unfolding inSolid holdsAt along onward meantOf valueOf holdsOf
+kind-rows = record {
+  z-past = refl;
+  sum-on = refl;
+  sum-past = refl;
+  product-on = refl;
+  square-past = refl;
+  either-one = refl;
+  complement-on = refl;
+}

@@ -13,7 +13,7 @@ use Rattle.cube.specs.Points.{axisHolds, holdsPoint, pointCube}
 use Rattle.cube.proofs.Places.{axis-between, axes}
 use Rattle.meaning.specs.Fractions.{BetweenPlanes, whole, InClosed}
 
-whole-between : (plane : ℤ) (side : ℕ) (v : ℤ) → plane ≤ℤ v → v ≤ℤ (plane +ℤ pos side) → BetweenPlanes plane side v 1
+pub whole-between : (plane : ℤ) (side : ℕ) (v : ℤ) → plane ≤ℤ v → v ≤ℤ (plane +ℤ pos side) → BetweenPlanes plane side v 1
 whole-between plane side v l u = record { low = rw (times-one plane) l; high = rw (times-one (plane +ℤ pos side)) u }
 
 held-between : (low : ℤ) (side : ℕ) (v : ℤ) → axisHolds low side v ≡ true → BetweenPlanes low side v 1

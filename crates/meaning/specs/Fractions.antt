@@ -1,9 +1,10 @@
 -- Fractions: the points between whole points, and the closed cubes that hold them. Assumes nothing: these are definitions.
-use Prim.Native.Nat.{ℕ, _<_}
+use Prim.Native.Nat.{ℕ, _<_, _^_}
 use native.Mathlib.Nat.{zero-lt-suc}
 use lib.IntN.{ℤ, pos, _+ℤ_, _*ℤ_}
 use lib.Signed.{_≤ℤ_}
 use Rattle.cube.specs.declared.Point.{Point}
+use Rattle.cube.specs.declared.Root.{Root}
 use Rattle.cube.specs.declared.Cube.{Cube}
 
 -- A point is three whole numerators over one positive whole denominator n: x/n, y/n, z/n.
@@ -28,3 +29,9 @@ pub record InClosed (q : Cube) (p : FractionalPoint) : Type 0 where
   pub x : BetweenPlanes (q .x) (q .side) (p .x) (p .n)
   pub y : BetweenPlanes (q .y) (q .side) (p .y) (p .n)
   pub z : BetweenPlanes (q .z) (q .side) (p .z) (p .n)
+
+-- The root has a low corner X, Y, Z and side 2^k: a point is in it, high planes included. (Written out, and not by the root as a cube, which is judged by this.)
+pub record InClosedRoot (r : Root) (p : FractionalPoint) : Type 0 where
+  pub x : BetweenPlanes (r .x) (2 ^ r .k) (p .x) (p .n)
+  pub y : BetweenPlanes (r .y) (2 ^ r .k) (p .y) (p .n)
+  pub z : BetweenPlanes (r .z) (2 ^ r .k) (p .z) (p .n)

@@ -16,7 +16,8 @@ use Rattle.sheet.specs.declared.Record.{Record}
 use Rattle.sheet.specs.declared.Record.the-variants.{Face}
 use Rattle.sheet.specs.Along.{along, onward}
 use Rattle.sheet.proofs.Along.{length-along, entry}
-use Rattle.sheet.proofs.StepRoom.{stepSheet, stepRecords, step-records, step-check}
+use Rattle.sheet.specs.StepRoom.{stepSheet, stepRecords}
+use Rattle.sheet.proofs.StepRoom.{step-records, step-check}
 use Rattle.cube.specs.declared.Root.{Root}
 use Rattle.cube.specs.declared.Cube.{Cube}
 use Rattle.cube.specs.Limits.{axisFits, sizesFit, inLimits}
@@ -27,7 +28,7 @@ use Rattle.colour.specs.States.{faceState, bothOf, stateOf}
 use Rattle.colour.specs.Entries.{Entry, blank, entryOf, entries, beforePast, pastOf}
 use Rattle.zonemap.specs.declared.Leaf.{Leaf}
 use Rattle.zonemap.specs.Map.{leafBytes, leavesBytes, cornerBytes, headerOf, mapOf}
-use Rattle.zonemap.proofs.Rows.{stepRoot, stepMap}
+use Rattle.zonemap.specs.StepRoom.{stepRoot, stepMap}
 use Rattle.build.specs.declared.Reply.the-variants.{Done, Short}
 use Rattle.build.specs.Tree.{upto, visit}
 use Rattle.build.specs.Solid.{solidState, isGray, leafOf, leavesBelow, pastsOf}

@@ -7,8 +7,8 @@ use lib.ListN.{getD, replicate}
 use Rattle.bigendian.specs.Numbers.{bytesOf, unsigned32}
 use Rattle.zonemap.specs.declared.Leaf.{Leaf}
 use Rattle.zonemap.specs.Map.{leafBytes, leavesBytes, cornerBytes, headerOf, mapOf}
-use Rattle.sheet.proofs.StepRoom.{stepSheet}
-use Rattle.zonemap.proofs.Rows.{stepRoot, stepMap}
+use Rattle.sheet.specs.StepRoom.{stepSheet}
+use Rattle.zonemap.specs.StepRoom.{stepRoot, stepMap}
 use Rattle.build.specs.declared.Reply.{Reply}
 use Rattle.build.specs.declared.Reply.the-variants.{Done, Short}
 use Rattle.build.specs.Build.{Outcome, outcome, buildOf, codeOf, numberOf}

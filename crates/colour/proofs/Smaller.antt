@@ -66,14 +66,14 @@ inside-small i j h s =
     }
 
 -- no record passes the limit exactly where all entries keep it
-none-keep : (rs : List Record) (q : Cube) → pastOf rs q ≡ [] → Keep (entries q rs)
+pub none-keep : (rs : List Record) (q : Cube) → pastOf rs q ≡ [] → Keep (entries q rs)
 unfolding pastOf
 none-keep rs q e =
     by-test (ltb (beforePast (entries q rs)) (length rs))
     (λ t. let z : (beforePast (entries q rs) ∷ []) ≡ [] = rw t at e in let y : _≡_ {A = ℕ} 0 1 = cc in absurd (omega arith))
     (λ t. all-keep (entries q rs) (omega (arith, ltb-false (beforePast (entries q rs)) (length rs) t, length-along (entryOf q) rs)))
 
-keep-none : (rs : List Record) (q : Cube) → Keep (entries q rs) → pastOf rs q ≡ []
+pub keep-none : (rs : List Record) (q : Cube) → Keep (entries q rs) → pastOf rs q ≡ []
 unfolding pastOf
 keep-none rs q k =
     rw (le-ltb (beforePast (entries q rs)) (length rs) (omega (arith, none-past (entries q rs) k, length-along (entryOf q) rs)))

@@ -1,25 +1,11 @@
 -- The limits of root and depth by their numbers, each on a line: a root is in limits where all hold, and nowhere else. Assumes nothing.
 use mathlib.Core.Path.{_≡_}
 use mathlib.Core.Bool.{true}
-use Prim.Native.Nat.{_≤_, _^_}
 use borrow.Author.Tests.{le-leb}
-use lib.IntN.{pos, negℤ, _+ℤ_}
-use lib.Signed.{_≤ℤ_}
 use Rattle.integers.proofs.Order.{le-test}
 use Rattle.cube.specs.declared.Root.{Root}
-use Rattle.cube.specs.Limits.{axisFits, sizesFit, inLimits}
+use Rattle.cube.specs.Limits.{axisFits, sizesFit, inLimits, WithinLimits}
 use Rattle.cube.proofs.Limits.{limits-sizes, limits-x, limits-y, limits-z}
-
-pub record WithinLimits (r : Root) : Type 0 where
-  pub k-most : r .k ≤ 16
-  pub d-most : r .d ≤ 10
-  pub d-below : r .d ≤ r .k
-  pub x-least : negℤ (pos (2 ^ 20)) ≤ℤ r .x
-  pub y-least : negℤ (pos (2 ^ 20)) ≤ℤ r .y
-  pub z-least : negℤ (pos (2 ^ 20)) ≤ℤ r .z
-  pub x-most : (r .x +ℤ pos (2 ^ r .k)) ≤ℤ pos (2 ^ 20)
-  pub y-most : (r .y +ℤ pos (2 ^ r .k)) ≤ℤ pos (2 ^ 20)
-  pub z-most : (r .z +ℤ pos (2 ^ r .k)) ≤ℤ pos (2 ^ 20)
 
 pub within-limits : (r : Root) → inLimits r ≡ true → WithinLimits r
 within-limits r e = record {

@@ -3,7 +3,7 @@ use Prim.Native.Nat.{ℕ, _+_, _≤_, _^_}
 use mathlib.Core.Bool.{Bool, _&&_}
 use lib.Dec.{leb}
 use lib.IntN.{ℤ, pos, negℤ, natAbs, _+ℤ_}
-use lib.Signed.{leZ}
+use lib.Signed.{leZ, _≤ℤ_}
 use Rattle.cube.specs.declared.Root.{Root}
 use Rattle.cube.specs.declared.Cube.{Cube}
 
@@ -17,6 +17,18 @@ sizesFit k d = leb k 16 && leb d 10 && leb d k
 
 unfoldable pub inLimits : Root → Bool
 inLimits r = sizesFit (r .k) (r .d) && axisFits (r .x) (2 ^ r .k) && axisFits (r .y) (2 ^ r .k) && axisFits (r .z) (2 ^ r .k)
+
+-- the same, each limit on a line of its own
+pub record WithinLimits (r : Root) : Type 0 where
+  pub k-most : r .k ≤ 16
+  pub d-most : r .d ≤ 10
+  pub d-below : r .d ≤ r .k
+  pub x-least : negℤ (pos (2 ^ 20)) ≤ℤ r .x
+  pub y-least : negℤ (pos (2 ^ 20)) ≤ℤ r .y
+  pub z-least : negℤ (pos (2 ^ 20)) ≤ℤ r .z
+  pub x-most : (r .x +ℤ pos (2 ^ r .k)) ≤ℤ pos (2 ^ 20)
+  pub y-most : (r .y +ℤ pos (2 ^ r .k)) ≤ℤ pos (2 ^ 20)
+  pub z-most : (r .z +ℤ pos (2 ^ r .k)) ≤ℤ pos (2 ^ 20)
 
 -- a cube so near to the origin, with so many levels below it, that no sum over it wraps
 pub record Near (left : ℕ) (q : Cube) : Type 0 where

@@ -11,11 +11,13 @@ use Rattle.demands.specs.Contract.{Fact, just, Contract}
 use Rattle.sheet.specs.Check.{checkOf}
 use Rattle.build.specs.Build.{outcome, buildOf}
 use Rattle.lookup.specs.Lookup.{lookupOf}
-use Rattle.zone.specs.Replies.{zoneOutcome, zoneBuildOf, zoneLookupOf}
+use Rattle.zone.specs.Replies.{zoneCheckOf, zoneOutcome, zoneBuildOf, zoneOpenOf, zoneLookupOf}
 use Rattle.sheet.proofs.check
 use Rattle.build.proofs.build
 use Rattle.lookup.proofs.lookup
+use Rattle.zone.proofs.zone_check
 use Rattle.zone.proofs.zone_build
+use Rattle.zone.proofs.zone_open
 use Rattle.zone.proofs.zone_lookup
 
 -- whatever a caller has is what such a call requires
@@ -37,10 +39,20 @@ pub lookup-is : Contract lookup.ended (λ M. lookup.clauses) lookup.Symbol.routi
     (λ _ sheet map x y z r. r ≡ lookupOf (now sheet) (now map) (record { x = x; y = y; z = z }))
 lookup-is = record { written = λ 𝓤 H A mem run. refl; met = lookup.Met.met }
 
+-- zone::zone_check
+pub zone-check-is : Contract zone_check.ended (λ M. zone_check.clauses) zone_check.Symbol.routine
+    (λ _ sheet r. r ≡ zoneCheckOf (now sheet))
+zone-check-is = record { written = λ 𝓤 H A mem run. refl; met = zone_check.Met.met }
+
 -- zone::zone_build
 pub zone-build-is : Contract zone_build.ended (λ M. zone_build.clauses) zone_build.Symbol.routine
     (λ _ sheet x y z k d out r. zoneOutcome r (now (out .exit)) ≡ zoneBuildOf (now sheet) (record { x = x; y = y; z = z; k = k; d = d }) (now (out .entry)))
 zone-build-is = record { written = λ 𝓤 H A mem run. refl; met = zone_build.Met.met }
+
+-- zone::zone_open
+pub zone-open-is : Contract zone_open.ended (λ M. zone_open.clauses) zone_open.Symbol.routine
+    (λ _ map r. r ≡ zoneOpenOf (now map))
+zone-open-is = record { written = λ 𝓤 H A mem run. refl; met = zone_open.Met.met }
 
 -- zone::zone_lookup
 pub zone-lookup-is : Contract zone_lookup.ended (λ M. zone_lookup.clauses) zone_lookup.Symbol.routine

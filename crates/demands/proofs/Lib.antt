@@ -1,3 +1,5 @@
+pub mod Sheets
+pub mod Opening
 pub mod Outcomes
 pub mod Maps
 pub mod AtPoint

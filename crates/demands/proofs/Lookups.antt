@@ -1,10 +1,11 @@
--- What a lookup answers: code 0 exactly where no row of the table refuses; the leaf that holds the position decides; and in a built map what it answers is the truth of the solid there. Assumes nothing.
+-- What zone_lookup answers: code 0 exactly where no row of the table refuses; the leaf that holds the position decides; and in a built map what it answers is the
+-- truth of the solid there. Assumes nothing.
 use mathlib.Core.Path.{_≡_, refl, sym, ap, _∙_}
-use mathlib.Core.Bool.{Bool, true, false, not}
-use mathlib.Core.List.{List}
-use Prim.Native.Nat.{ℕ}
+use mathlib.Core.Bool.{Bool, true, false, cond, not}
+use mathlib.Core.List.{List, [], _∷_}
+use Prim.Native.Nat.{ℕ, _≤_}
 use native.Mathlib.Omega.{arith}
-use borrow.Author.Tests.{eqb-true}
+use borrow.Author.Tests.{eqb-true, eqb-false}
 use lib.Dec.{eqb}
 use Rattle.integers.proofs.First.{none-first}
 use Rattle.integers.proofs.Order.{by-test}
@@ -16,28 +17,41 @@ use Rattle.sheet.specs.Check.{checkOf}
 use Rattle.kinds.specs.Faces.{hasFace}
 use Rattle.cube.specs.declared.Point.{Point}
 use Rattle.cube.specs.Cubes.{rootCube}
-use Rattle.cube.specs.Points.{holdsPoint}
+use Rattle.cube.specs.Points.{holdsPoint, InRoot}
+use Rattle.cube.proofs.InRoot.{in-root, root-holds}
 use Rattle.meaning.specs.Fractions.{whole}
-use Rattle.meaning.specs.Truth.{inSolid}
+use Rattle.meaning.specs.Truth.{holdsAt, inSolid}
 use Rattle.meaning.proofs.Whole.{held-closed}
 use Rattle.colour.specs.Entries.{pastOf}
+use Rattle.colour.proofs.Smaller.{none-keep, keep-none}
 use Rattle.zonemap.specs.declared.Leaf.{Leaf}
 use Rattle.zonemap.specs.Opening.{rootOf, faultOf}
 use Rattle.zonemap.proofs.Found.{leaf-bytes}
 use Rattle.zonemap.proofs.Tiling.{one}
-use Rattle.lookup.specs.declared.Answer.{Answer}
-use Rattle.lookup.specs.declared.Answer.the-variants.{Undecided}
 use Rattle.lookup.specs.declared.Reply.{Reply}
 use Rattle.lookup.specs.declared.Reply.the-variants.{Done, Map, OverRoot}
-use Rattle.lookup.specs.Lookup.{sideOf, answerOf, leafHolding, mapReply, onSheet, lookupOf, codeOf}
-use Rattle.demands.specs.Terms.{Built, nthLeaf, nthCube, Touches, CanLookUp}
+use Rattle.lookup.specs.Lookup.{answerNumber, answerOf, sideOf, leafHolding, mapReply, onSheet, lookupOf, codeOf}
+use Rattle.zone.specs.declared.ZoneReply.{ZoneReply}
+use Rattle.zone.specs.Replies.{reply, checkedByNumber, zoneCheckOf, lookupByNumber, zoneLookupOf}
+use Rattle.demands.specs.Terms.{DoneWhere, Built, nthLeaf, nthCube, Touches, GoodSheet, GoodLeaf, CanLookUp}
+use Rattle.demands.specs.Table.{LookupRows}
 use Rattle.demands.specs.Demands.{ByTheLeaf, Agrees}
-use Rattle.demands.proofs.Outcomes.{sheet-code}
+use Rattle.demands.proofs.Sheets.{sheet-code, check-good, good-check}
+use Rattle.demands.proofs.Opening.{opens-told, opens-fault}
 use Rattle.demands.proofs.AtPoint.{by-its-face}
 use Rattle.demands.proofs.Soundness.{agrees}
 use Rattle.demands.proofs.Tiling.{found}
 
--- ---- exactly where no row of the table refuses
+-- ---- a sheet that is refused
+bad-sheet : (checked : Checked) → (checkedByNumber checked .code ≡ 0 → ⊥) → (rs : List Record) (map : List ℕ) (p : Point) → lookupByNumber (onSheet checked rs map p) ≡ checkedByNumber checked
+bad-sheet (Good n) h rs map p = absurd (h refl)
+bad-sheet (Refused why) h rs map p = refl
+
+pub lookup-refused : (sheet : List ℕ) → (zoneCheckOf sheet .code ≡ 0 → ⊥) → (map : List ℕ) (p : Point) → zoneLookupOf sheet map p ≡ zoneCheckOf sheet
+unfolding zoneLookupOf lookupOf zoneCheckOf
+lookup-refused sheet h map p = bad-sheet (checkOf sheet) h (recordsOf sheet) map p
+
+-- ---- done exactly where all is fine
 abbrev Answers : Reply → Type 0
 Answers r = codeOf r ≡ 0
 
@@ -45,72 +59,121 @@ module _ (sheet map : List ℕ) (p : Point) where
   abbrev rs : List Record
   rs = recordsOf sheet
 
-  map-looks-up : (n : ℕ) → checkOf sheet ≡ Good n → codeOf (mapReply rs map p) ≡ 0 → CanLookUp sheet map p
+  map-looks-up : GoodSheet sheet → codeOf (mapReply rs map p) ≡ 0 → CanLookUp sheet map p
   unfolding mapReply
-  map-looks-up n g e =
+  map-looks-up g e =
       let opened = none-first Answers Map _ (faultOf (hasFace rs) map) (λ at z. omega arith) e in
       let over = none-first Answers OverRoot _ (pastOf rs (rootCube (rootOf map))) (λ at z. omega arith) (opened .1) in
       by-test (holdsPoint (rootCube (rootOf map)) p)
-      (λ t. record { good = (n, g); opens = opened .0; over-root = over .0; inside = t })
+      (λ t. record {
+        good = g;
+        opens = opens-told (hasFace rs) map (opened .0);
+        bounded = none-keep rs (rootCube (rootOf map)) (over .0);
+        inside = in-root (rootOf map) p t;
+      })
       (λ t. let z : _≡_ {A = ℕ} 10 0 = rw t at (over .1) in absurd (omega arith))
 
   sheet-looks-up : (checked : Checked) → checkOf sheet ≡ checked → codeOf (onSheet checked rs map p) ≡ 0 → CanLookUp sheet map p
-  sheet-looks-up (Good n) g e = map-looks-up n g e
+  sheet-looks-up (Good n) g e = map-looks-up (check-good sheet n g) e
   sheet-looks-up (Refused why) g e = absurd (sheet-code why e)
 
-  pub looks-up-only : codeOf (lookupOf sheet map p) ≡ 0 → CanLookUp sheet map p
-  unfolding lookupOf
+  looks-up-only : zoneLookupOf sheet map p .code ≡ 0 → CanLookUp sheet map p
+  unfolding zoneLookupOf lookupOf
   looks-up-only e = sheet-looks-up (checkOf sheet) refl e
 
   -- ---- by the leaf
-  pub by-the-leaf : CanLookUp sheet map p → ByTheLeaf sheet map p
-  unfolding leafHolding lookupOf mapReply
-  by-the-leaf c =
-      let i : ℕ = one (hasFace rs) map (c .opens) p (c .inside) in
-      let h = found (hasFace rs) map (c .opens) p (c .inside) in
-      record {
-        number = i;
-        holds = h;
-        answer = rw (c .good .1, c .opens, c .over-root, c .inside) (ap (λ (l : Leaf). Done (answerOf rs l p)) (sym (leaf-bytes map i (h .among))));
-      }
+  module _ (c : CanLookUp sheet map p) where
+    opens : faultOf (hasFace rs) map ≡ []
+    opens = opens-fault (hasFace rs) map (c .opens)
 
-  pub looks-up : CanLookUp sheet map p → codeOf (lookupOf sheet map p) ≡ 0
-  looks-up c = ap codeOf (by-the-leaf c .answer)
+    abbrev number : ℕ
+    number = one (hasFace rs) map opens p (root-holds (rootOf map) p (c .inside))
+
+    abbrev leaf : Leaf
+    leaf = nthLeaf map number
+
+    answer : zoneLookupOf sheet map p ≡ reply 0 (answerNumber (answerOf rs leaf p))
+    unfolding zoneLookupOf leafHolding lookupOf mapReply
+    answer =
+        let h = found (hasFace rs) map opens p (c .inside) in
+        rw (good-check sheet (c .good), opens, keep-none rs (rootCube (rootOf map)) (c .bounded), root-holds (rootOf map) p (c .inside))
+        (ap (λ (l : Leaf). reply 0 (answerNumber (answerOf rs l p))) (sym (leaf-bytes map number (h .among))))
+
+    good : GoodLeaf (hasFace rs) map number
+    good = c .opens .good number (found (hasFace rs) map opens p (c .inside) .among)
+
+    side-number : (b : Bool) → answerNumber (sideOf b) ≡ cond b 1 0
+    side-number true = refl
+    side-number false = refl
+
+    -- whether the point satisfies the leaf's face
+    abbrev satisfied : Bool
+    satisfied = holdsAt rs (leaf .face) (whole p)
+
+    pub by-the-leaf : ByTheLeaf sheet map p
+    unfolding answerOf
+    by-the-leaf = record {
+      number = number;
+      holds = found (hasFace rs) map opens p (c .inside);
+      white = λ k. answer ∙ rw k;
+      black = λ k. answer ∙ rw k;
+      terminal = λ k. answer ∙ rw (k, by-its-face rs (leaf .face) p (good .terminal k)) (ap (reply 0) (side-number satisfied));
+      complement = λ k. answer ∙ rw (k, by-its-face rs (leaf .face) p (good .complement k)) (ap (reply 0) (side-number (not satisfied)));
+      gray = λ k. answer ∙ rw k;
+    }
+
+  pub looks-up : DoneWhere (CanLookUp sheet map p) (zoneLookupOf sheet map p) (zoneLookupOf sheet map p .number)
+  looks-up = record {
+    done = λ c. let e = answer c in rw e;
+    only = looks-up-only;
+  }
+
+  -- ---- the rows that refuse
+  out-of-root : (InRoot (rootOf map) p → ⊥) → holdsPoint (rootCube (rootOf map)) p ≡ false
+  out-of-root h = by-test (holdsPoint (rootCube (rootOf map)) p) (λ t. absurd (h (in-root (rootOf map) p t))) (λ t. t)
+
+  pub lookup-rows : (good : GoodSheet sheet) → LookupRows sheet good map p
+  unfolding zoneLookupOf lookupOf mapReply
+  lookup-rows good = record {
+    row-9 = λ at fault. rw (good-check sheet good, fault);
+    row-7 = λ opens n past. rw (good-check sheet good, opens-fault (hasFace rs) map opens, past);
+    row-10 = λ opens bounded out. rw (good-check sheet good, opens-fault (hasFace rs) map opens, keep-none rs (rootCube (rootOf map)) bounded, out-of-root out);
+  }
 
 -- ---- the truth
--- a side is that of one truth
-same-side : (a b : Bool) → sideOf a ≡ sideOf b → a ≡ b
+-- a number is that of one side
+same-side : (a b : Bool) → reply 0 (cond a 1 0) ≡ reply 0 (cond b 1 0) → a ≡ b
 same-side true true e = refl
-same-side true false e = let z : _≡_ {A = ℕ} 0 1 = cc in absurd (omega arith)
-same-side false true e = let z : _≡_ {A = ℕ} 0 1 = cc in absurd (omega arith)
+same-side true false e = let z : _≡_ {A = ℕ} 1 0 = ap (λ (r : ZoneReply). r .number) e in absurd (omega arith)
+same-side false true e = let z : _≡_ {A = ℕ} 0 1 = ap (λ (r : ZoneReply). r .number) e in absurd (omega arith)
 same-side false false e = refl
 
-no-side : (b : Bool) → Undecided ≡ sideOf b → ⊥
-no-side true e = let z : _≡_ {A = ℕ} 0 1 = cc in omega arith
-no-side false e = let z : _≡_ {A = ℕ} 0 1 = cc in omega arith
+no-side : (b : Bool) → reply 0 2 ≡ reply 0 (cond b 1 0) → ⊥
+no-side true e = let z : _≡_ {A = ℕ} 2 1 = ap (λ (r : ZoneReply). r .number) e in omega arith
+no-side false e = let z : _≡_ {A = ℕ} 2 0 = ap (λ (r : ZoneReply). r .number) e in omega arith
 
 -- a leaf that agrees with the point answers the truth or leaves it open
-module _ (rs : List Record) (l : Leaf) (p : Point) (h : Agrees rs l (whole p)) (side : Bool) where
-  answer-true : answerOf rs l p ≡ sideOf side → inSolid rs (whole p) ≡ side
-  unfolding answerOf
-  answer-true e =
+module _ (sheet map : List ℕ) (p : Point) (t : ByTheLeaf sheet map p) (h : Agrees (recordsOf sheet) (nthLeaf map (t .number)) (whole p)) (class : nthLeaf map (t .number) .class ≤ 4) (side : Bool) (e : zoneLookupOf sheet map p ≡ reply 0 (cond side 1 0)) where
+  abbrev l : Leaf
+  l = nthLeaf map (t .number)
+
+  leaf-true : inSolid (recordsOf sheet) (whole p) ≡ side
+  leaf-true =
       by-test (eqb (l .class) 0)
-      (λ a. h .white (eqb-true (l .class) 0 a) ∙ same-side false side (rw a at e))
+      (λ a. let k = eqb-true (l .class) 0 a in h .white k ∙ same-side false side (sym (t .white k) ∙ e))
       (λ a. by-test (eqb (l .class) 1)
-      (λ b. h .black (eqb-true (l .class) 1 b) ∙ same-side true side (rw (a, b) at e))
+      (λ b. let k = eqb-true (l .class) 1 b in h .black k ∙ same-side true side (sym (t .black k) ∙ e))
       (λ b. by-test (eqb (l .class) 2)
-      (λ c. let t = h .terminal (eqb-true (l .class) 2 c) in t .1 ∙ sym (by-its-face rs (l .face) p (t .0)) ∙ same-side _ side (rw (a, b, c) at e))
+      (λ c. let k = eqb-true (l .class) 2 c in h .terminal k .1 ∙ same-side _ side (sym (t .terminal k) ∙ e))
       (λ c. by-test (eqb (l .class) 3)
-      (λ d. let t = h .complement (eqb-true (l .class) 3 d) in t .1 ∙ ap not (sym (by-its-face rs (l .face) p (t .0))) ∙ same-side _ side (rw (a, b, c, d) at e))
-      (λ d. absurd (no-side side (rw (a, b, c, d) at e))))))
+      (λ d. let k = eqb-true (l .class) 3 d in h .complement k .1 ∙ same-side _ side (sym (t .complement k) ∙ e))
+      (λ d. absurd (no-side side (sym (t .gray (omega (arith, class, eqb-false (l .class) 0 a, eqb-false (l .class) 1 b, eqb-false (l .class) 2 c, eqb-false (l .class) 3 d))) ∙ e))))))
 
 module _ (sheet map : List ℕ) (b : Built sheet map) (p : Point) where
   -- what a lookup in a built map answers is the truth
-  pub truth : (side : Bool) → lookupOf sheet map p ≡ Done (sideOf side) → inSolid (recordsOf sheet) (whole p) ≡ side
+  pub truth : (side : Bool) → zoneLookupOf sheet map p ≡ reply 0 (cond side 1 0) → inSolid (recordsOf sheet) (whole p) ≡ side
   truth side e =
-      let f = by-the-leaf sheet map p (looks-up-only sheet map p (ap codeOf e)) in
-      let closed : Touches map (whole p) (f .number) = record { among = f .holds .among; closed = held-closed (nthCube map (f .number)) p (f .holds .held) } in
-      answer-true (recordsOf sheet) (nthLeaf map (f .number)) p (agrees sheet map b (whole p) (f .number) closed) side (same-answer _ _ (sym (f .answer) ∙ e))
-    where
-      same-answer : (a c : Answer) → Done a ≡ Done c → a ≡ c
-      same-answer a c e = cc
+      let c = looks-up-only sheet map p (ap (λ (r : ZoneReply). r .code) e) in
+      let f = by-the-leaf sheet map p c in
+      let t : Touches map (whole p) (f .number) = record { among = f .holds .among; closed = held-closed (nthCube map (f .number)) p (f .holds .held) } in
+      leaf-true sheet map p f (agrees sheet map b (whole p) (f .number) t) (c .opens .good (f .number) (f .holds .among) .class) side e

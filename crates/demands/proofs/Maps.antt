@@ -1,5 +1,5 @@
 -- What a map built from a sheet is: the map that the rules name, which opens, each leaf of it being that of the cube at its own place. Assumes nothing.
-use mathlib.Core.Path.{_≡_, ap, _∙_}
+use mathlib.Core.Path.{_≡_, sym, ap, _∙_}
 use mathlib.Core.Bool.{true}
 use mathlib.Core.List.{List, [], _++_}
 use Prim.Native.Nat.{ℕ, _<_}
@@ -14,15 +14,20 @@ use Rattle.cube.specs.declared.Root.{Root}
 use Rattle.cube.specs.declared.Point.{Point}
 use Rattle.cube.specs.Limits.{inLimits}
 use Rattle.cube.specs.Cubes.{rootCube}
-use Rattle.cube.specs.Points.{holdsPoint}
+use Rattle.cube.specs.Points.{InRoot}
+use Rattle.colour.proofs.Smaller.{none-keep}
 use Rattle.zonemap.specs.Opening.{rootOf, leavesOf, faultOf}
 use Rattle.zonemap.proofs.Bytes.{map-length}
 use Rattle.build.specs.Solid.{leafOf}
 use Rattle.build.specs.Build.{builtMap}
-use Rattle.build.proofs.Answers.{Made, done-made}
+use Rattle.build.proofs.Answers.{Made}
 use Rattle.roundtrip.proofs.Built.{all, built-opens, built-root, built-leaves, leaf-is}
-use Rattle.demands.specs.Terms.{Built, nthLeaf, nthCube, CanLookUp}
+use Rattle.zone.specs.Replies.{ZoneOutcome}
+use Rattle.demands.specs.Terms.{Built, nthLeaf, nthCube, Opens, CanLookUp}
 use Rattle.demands.specs.Demands.{TheMap}
+use Rattle.demands.proofs.Sheets.{check-good}
+use Rattle.demands.proofs.Opening.{opens-told, any-opens, opens as zone-opens}
+use Rattle.demands.proofs.Outcomes.{made}
 
 -- a buffer that starts with the map
 module _ (n : ℕ) (map before after : List ℕ) (size : n ≡ length map) (bytes : after ≡ map ++ drop (length map) before) where
@@ -41,7 +46,10 @@ module _ (sheet map : List ℕ) (b : Built sheet map) where
 
   -- the sheet is good, and its map stands at the start of the buffer
   told : ((n : ℕ) × (checkOf sheet ≡ Good n)) × Made (b .size) (b .before) (b .after) rs root
-  told = done-made sheet root (b .before) (b .after) (b .size) (b .answered)
+  told =
+      let e = b .answered in
+      let t = made sheet root (b .before) (sym (ap (λ (o : ZoneOutcome). o .reply .code) e)) in
+      (t .0, rw (← ap (λ (o : ZoneOutcome). o .reply .number) e, ← ap (λ (o : ZoneOutcome). o .buffer) e) at (t .1))
 
   abbrev known : Made (b .size) (b .before) (b .after) rs root
   known = told .1
@@ -59,12 +67,21 @@ module _ (sheet map : List ℕ) (b : Built sheet map) where
   leaves-are : leavesOf map ≡ all rs root within
   leaves-are = ap leavesOf is ∙ built-leaves rs root within
 
+  -- it opens, whichever faces may be named as long as those of the sheet may
   opens : faultOf (hasFace rs) map ≡ []
   opens = ap (faultOf (hasFace rs)) is ∙ built-opens rs root within
 
+  pub opens-with : Opens (hasFace rs) map
+  opens-with = opens-told (hasFace rs) map opens
+
   -- looking up in it is refused for a position that is not in the root, and for nothing else
-  pub can-look-up : (p : Point) → holdsPoint (rootCube (rootOf map)) p ≡ true → CanLookUp sheet map p
-  can-look-up p inside = record { good = told .0; opens = opens; over-root = rw root-is (known .none); inside = inside }
+  pub can-look-up : (p : Point) → InRoot (rootOf map) p → CanLookUp sheet map p
+  can-look-up p inside = record {
+    good = check-good sheet (told .0 .0) (told .0 .1);
+    opens = opens-with;
+    bounded = rw root-is (none-keep rs (rootCube root) (known .none));
+    inside = inside;
+  }
 
   -- each leaf is that of the cube at its own place
   pub leaf-there : (i : ℕ) → i < length (leavesOf map) → nthLeaf map i ≡ leafOf rs (nthCube map i)
@@ -77,6 +94,6 @@ module _ (sheet map : List ℕ) (b : Built sheet map) where
     root = root-is;
     size = known .size ∙ map-length root (all rs root within) ∙ rw leaves-are;
     later-stay = later-stay (b .size) (builtMap rs root) (b .before) (b .after) (known .size) (known .bytes);
-    opens = opens;
+    opens = zone-opens map .done (any-opens (hasFace rs) map opens-with);
     leaf = leaf-there;
   }

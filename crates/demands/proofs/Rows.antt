@@ -1,49 +1,76 @@
 -- The eleven rows marked P hold. Assumes nothing.
 use mathlib.Core.Path.{_≡_, refl, ap, _∙_}
-use mathlib.Core.List.{List, _++_}
+use mathlib.Core.List.{List, [], _∷_, _++_}
 use Prim.Native.Nat.{ℕ, _≤_, _<_}
 use native.Mathlib.Omega.{arith}
 use borrow.Author.Tests.{lt-ltb, le-ltb}
 use lib.ListN.{length, drop}
+use Rattle.sheet.specs.declared.Record.{Record}
+use Rattle.sheet.specs.Records.{recordsOf}
+use Rattle.sheet.specs.StepRoom.{stepSheet}
+use Rattle.cube.specs.declared.Root.{Root}
+use Rattle.cube.specs.declared.Point.{Point}
+use Rattle.cube.specs.Cubes.{rootCube}
 use Rattle.zonemap.specs.declared.Leaf.{Leaf}
 use Rattle.zonemap.specs.Map.{mapOf}
 use Rattle.zonemap.specs.Opening.{leafIn, leavesIn}
 use Rattle.zonemap.proofs.Bytes.{map-length}
-use Rattle.zonemap.proofs.Rows.{stepRoot, stepMap}
+use Rattle.zonemap.specs.StepRoom.{stepRoot, stepMap}
 use Rattle.colour.specs.States.{faceState}
 use Rattle.colour.proofs.Rows.{product-row, square-row, unrelated-row}
-use Rattle.build.specs.declared.Reply.the-variants.{Done, Short}
-use Rattle.build.specs.Build.{outcome, builtMap, storedOf}
+use Rattle.build.specs.Solid.{leavesBelow}
+use Rattle.build.specs.Build.{builtMap, storedOf, buildOf}
 use Rattle.build.proofs.Rows.{depth-2, build-0, build-1, build-2, one-face}
 use Rattle.lookup.proofs.Rows.{by-face-5, inside-2-0-0, outside-3-0-0, undecided-2-2-0, not-in-root-4-0-0}
+use Rattle.lookup.specs.declared.Reply.{Reply}
+use Rattle.lookup.specs.Lookup.{lookupOf}
+use Rattle.zone.specs.Replies.{reply, zoneOutcome, builtByNumber, zoneBuildOf, lookupByNumber, zoneLookupOf}
 use Rattle.demands.specs.Rows.{AllHold, elevenRows}
+use Rattle.demands.proofs.Outcomes.{made}
 
 -- a map of n bytes is stored where it has room, and refused where it has none
-module _ (map out : List ℕ) (n : ℕ) (size : length map ≡ n) where
-  stores : n ≤ length out → storedOf map out ≡ outcome (Done n) (map ++ drop n out)
-  unfolding storedOf
-  stores h = rw (size, le-ltb (length out) n h)
+module _ (sheet : List ℕ) (root : Root) (map out : List ℕ) (n : ℕ) (e : buildOf sheet root out ≡ storedOf map out) (size : length map ≡ n) where
+  stores : n ≤ length out → zoneBuildOf sheet root out ≡ zoneOutcome (reply 0 n) (map ++ drop n out)
+  unfolding zoneBuildOf storedOf
+  stores h = ap builtByNumber e ∙ rw (size, le-ltb (length out) n h)
 
-  refuses : length out < n → storedOf map out ≡ outcome (Short n) out
-  unfolding storedOf
-  refuses h = rw (size, lt-ltb (length out) n h)
+  refuses : length out < n → zoneBuildOf sheet root out ≡ zoneOutcome (reply 8 n) out
+  unfolding zoneBuildOf storedOf
+  refuses h = ap builtByNumber e ∙ rw (size, lt-ltb (length out) n h)
+
+-- a lookup by number
+looks-up : (p : Point) (r : Reply) → lookupOf stepSheet stepMap p ≡ r → zoneLookupOf stepSheet stepMap p ≡ lookupByNumber r
+unfolding zoneLookupOf
+looks-up p r e = ap lookupByNumber e
+
+-- one leaf, where building is done
+module _ (sheet : List ℕ) (root : Root) (out : List ℕ) (e : zoneBuildOf sheet root out .reply .code ≡ 0) (l : Leaf) (one : leavesBelow (recordsOf sheet) (root .d) (rootCube root) ≡ l ∷ []) where
+  one-leaf : zoneBuildOf sheet root out ≡ zoneOutcome (reply 0 22) (mapOf root (l ∷ []) ++ drop 22 out)
+  unfolding builtMap
+  one-leaf =
+      let m = made sheet root out e .1 in
+      let is : builtMap (recordsOf sheet) root ≡ mapOf root (l ∷ []) = ap (mapOf root) one in
+      let size : length (mapOf root (l ∷ [])) ≡ 22 = map-length root (l ∷ []) in
+      let number : zoneBuildOf sheet root out .reply .number ≡ 22 = m .size ∙ ap length is ∙ size in
+      let bytes : zoneBuildOf sheet root out .buffer ≡ mapOf root (l ∷ []) ++ drop 22 out = m .bytes ∙ rw (is, size) in
+      λ i. zoneOutcome (reply (e i) (number i)) (bytes i)
 
 pub rows : AllHold elevenRows
 unfolding AllHold leavesIn leafIn faceState builtMap
 rows = (
-  λ out h. build-0 out ∙ stores _ out 22 (map-length (stepRoot 0) _) h,
+  λ out h. stores stepSheet (stepRoot 0) _ out 22 (build-0 out) (map-length (stepRoot 0) _) h,
   (
-    (λ out h. build-1 out ∙ stores stepMap out 43 refl h, refl, λ out h. build-1 out ∙ refuses stepMap out 43 refl (omega arith)),
+    (λ out h. stores stepSheet (stepRoot 1) stepMap out 43 (build-1 out) refl h, refl, λ out h. refuses stepSheet (stepRoot 1) stepMap out 43 (build-1 out) refl (omega arith)),
     (
-      λ out h. build-2 out ∙ ap (λ (ls : List Leaf). storedOf (mapOf (stepRoot 2) ls) out) depth-2 ∙ stores _ out 85 (map-length (stepRoot 2) _) h,
+      λ out h. stores stepSheet (stepRoot 2) _ out 85 (build-2 out ∙ ap (λ (ls : List Leaf). storedOf (mapOf (stepRoot 2) ls) out) depth-2) (map-length (stepRoot 2) _) h,
       (
-        (inside-2-0-0, by-face-5),
+        (looks-up _ _ inside-2-0-0, by-face-5),
         (
-          outside-3-0-0,
+          looks-up _ _ outside-3-0-0,
           (
-            undecided-2-2-0,
+            looks-up _ _ undecided-2-2-0,
             (
-              not-in-root-4-0-0,
+              looks-up _ _ not-in-root-4-0-0,
               (
                 product-row,
                 (
@@ -51,7 +78,7 @@ rows = (
                   (
                     λ f. (refl, refl),
                     (
-                      λ rs a root s. one-face rs a root (length rs) s,
+                      λ sheet rs a root out is s e. one-leaf sheet root out e _ (ap (λ (k : List Record). leavesBelow k (root .d) (rootCube root)) is ∙ one-face rs a root (length rs) s),
                       tt,
                     ),
                   ),

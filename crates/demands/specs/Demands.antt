@@ -1,44 +1,46 @@
--- The customer's three demands, stated of the definitions that the contracts of the public calls name. proofs/Kept has their proof. Assumes nothing.
+-- The customer's three demands, stated of the calls that ship, by document 01's codes and numbers: zoneCheckOf, zoneBuildOf, zoneOpenOf and zoneLookupOf are
+-- what the contracts of zone_check, zone_build, zone_open and zone_lookup say (proofs/Contracts). proofs/Kept has the proof of all. Assumes nothing.
 use mathlib.Core.Path.{_≡_}
-use mathlib.Core.Bool.{Bool, true, false, not}
-use mathlib.Core.List.{List, []}
+use mathlib.Core.Bool.{Bool, true, false, cond, not}
+use mathlib.Core.List.{List}
 use Prim.Native.Nat.{ℕ, _+_, _*_, _<_}
 use lib.ListN.{length, drop}
 use Rattle.sheet.specs.declared.Record.{Record}
 use Rattle.sheet.specs.Records.{recordsOf}
-use Rattle.sheet.specs.Check.{checkOf}
 use Rattle.kinds.specs.Faces.{hasFace}
 use Rattle.cube.specs.declared.Root.{Root}
 use Rattle.cube.specs.declared.Point.{Point}
-use Rattle.cube.specs.Cubes.{rootCube}
-use Rattle.cube.specs.Points.{holdsPoint}
-use Rattle.meaning.specs.Fractions.{FractionalPoint, whole, InClosed}
+use Rattle.cube.specs.Points.{InRoot}
+use Rattle.meaning.specs.Fractions.{FractionalPoint, whole, InClosedRoot}
 use Rattle.meaning.specs.Truth.{holdsAt, inSolid}
 use Rattle.zonemap.specs.declared.Leaf.{Leaf}
-use Rattle.zonemap.specs.Opening.{rootOf, leavesOf, faultOf}
+use Rattle.zonemap.specs.Opening.{rootOf, leavesOf, anyFace}
 use Rattle.build.specs.Solid.{leafOf}
-use Rattle.build.specs.Build.{builtMap, buildOf, codeOf}
-use Rattle.lookup.specs.declared.Reply.the-variants.{Done}
-use Rattle.lookup.specs.Lookup.{faceHolds, sideOf, answerOf, lookupOf, codeOf as codeOfLookup}
-use Rattle.zone.specs.Replies.{zoneBuildOf, zoneLookupOf}
-use Rattle.demands.specs.Terms.{ExactlyOne, Built, nthLeaf, nthCube, Holds, Touches, CanBuild, CanLookUp}
+use Rattle.build.specs.Build.{builtMap}
+use Rattle.zone.specs.declared.ZoneReply.{ZoneReply}
+use Rattle.zone.specs.Replies.{reply, zoneCheckOf, ZoneOutcome, zoneOutcome, zoneBuildOf, zoneOpenOf, zoneLookupOf}
+use Rattle.demands.specs.Terms.{ExactlyOne, DoneWhere, Built, nthLeaf, nthCube, Holds, Touches, GoodSheet, Opens, CanBuild, CanLookUp}
+use Rattle.demands.specs.Table.{Table}
 use Rattle.demands.specs.Rows.{AllHold, elevenRows}
 
 -- 1. Every sheet, root cube, depth, map and position gets an answer. A bad one gets the refusal in document 01, in its stated order, without any check by the
 -- caller, and the map buffer is then unchanged.
 pub record Demand1 : Type 0 where
-  -- the contract of each public call lets in one outcome and no second: reply and every byte
-  pub check : (sheet : List ℕ) → ExactlyOne (λ r. r ≡ checkOf sheet)
-  pub build : (sheet : List ℕ) (root : Root) (before : List ℕ) → ExactlyOne (λ o. o ≡ buildOf sheet root before)
-  pub lookup : (sheet map : List ℕ) (p : Point) → ExactlyOne (λ r. r ≡ lookupOf sheet map p)
-  pub zone-build : (sheet : List ℕ) (root : Root) (before : List ℕ) → ExactlyOne (λ o. o ≡ zoneBuildOf sheet root before)
-  pub zone-lookup : (sheet map : List ℕ) (p : Point) → ExactlyOne (λ r. r ≡ zoneLookupOf sheet map p)
-  -- code 0 exactly where no row of the table refuses, and otherwise the buffer is as it was
-  pub builds : (sheet : List ℕ) (root : Root) (before : List ℕ) → CanBuild sheet root before → codeOf (buildOf sheet root before .reply) ≡ 0
-  pub builds-only : (sheet : List ℕ) (root : Root) (before : List ℕ) → codeOf (buildOf sheet root before .reply) ≡ 0 → CanBuild sheet root before
-  pub unchanged : (sheet : List ℕ) (root : Root) (before : List ℕ) → (codeOf (buildOf sheet root before .reply) ≡ 0 → ⊥) → buildOf sheet root before .buffer ≡ before
-  pub looks-up : (sheet map : List ℕ) (p : Point) → CanLookUp sheet map p → codeOfLookup (lookupOf sheet map p) ≡ 0
-  pub looks-up-only : (sheet map : List ℕ) (p : Point) → codeOfLookup (lookupOf sheet map p) ≡ 0 → CanLookUp sheet map p
+  -- a contract is one equation with a definition of the inputs: it lets in one reply, of a call that writes one reply with every byte, and no second
+  pub one-reply : (told : ZoneReply) → ExactlyOne (λ (r : ZoneReply). r ≡ told)
+  pub one-outcome : (told : ZoneOutcome) → ExactlyOne (λ (o : ZoneReply × List ℕ). zoneOutcome (o .0) (o .1) ≡ told)
+  -- code 0 exactly where no row of the table refuses, with the number of records, the map's length, the number of leaves, or an answer (demand 2)
+  pub checks : (sheet : List ℕ) → DoneWhere (GoodSheet sheet) (zoneCheckOf sheet) (length (recordsOf sheet))
+  pub builds : (sheet : List ℕ) (root : Root) (before : List ℕ) → DoneWhere (CanBuild sheet root before) (zoneBuildOf sheet root before .reply) (length (builtMap (recordsOf sheet) root))
+  pub opens : (map : List ℕ) → DoneWhere (Opens anyFace map) (zoneOpenOf map) (length (leavesOf map))
+  pub looks-up : (sheet map : List ℕ) (p : Point) → DoneWhere (CanLookUp sheet map p) (zoneLookupOf sheet map p) (zoneLookupOf sheet map p .number)
+  -- each refusal, by its code and its number, in the order of the table
+  pub refuses : Table
+  -- a sheet that zone_check refuses, each call refuses alike
+  pub build-refused : (sheet : List ℕ) → (zoneCheckOf sheet .code ≡ 0 → ⊥) → (root : Root) (before : List ℕ) → zoneBuildOf sheet root before ≡ zoneOutcome (zoneCheckOf sheet) before
+  pub lookup-refused : (sheet : List ℕ) → (zoneCheckOf sheet .code ≡ 0 → ⊥) → (map : List ℕ) (p : Point) → zoneLookupOf sheet map p ≡ zoneCheckOf sheet
+  -- a refusal leaves the buffer as it was
+  pub unchanged : (sheet : List ℕ) (root : Root) (before : List ℕ) → (zoneBuildOf sheet root before .reply .code ≡ 0 → ⊥) → zoneBuildOf sheet root before .buffer ≡ before
 
 -- 2. The map is exactly the one named by the interval rules: same cubes, order, colours and length.
 pub record TheMap (sheet map : List ℕ) (built : Built sheet map) : Type 0 where
@@ -46,21 +48,25 @@ pub record TheMap (sheet map : List ℕ) (built : Built sheet map) : Type 0 wher
   pub size : built .size ≡ 19 + 3 * length (leavesOf map)
   pub later-stay : drop (built .size) (built .after) ≡ drop (built .size) (built .before)
   -- it opens, with the root that was asked for, and each leaf is that of the cube at its own place
-  pub opens : faultOf (hasFace (recordsOf sheet)) map ≡ []
+  pub opens : zoneOpenOf map ≡ reply 0 (length (leavesOf map))
   pub root : rootOf map ≡ built .root
   pub leaf : (i : ℕ) → i < length (leavesOf map) → nthLeaf map i ≡ leafOf (recordsOf sheet) (nthCube map i)
 
--- A lookup answers by the leaf that holds the position, and by that leaf's one face where it names one.
+-- A lookup answers by the leaf that holds the position, and by that leaf's one face where it names one. (White answers 0, black 1, gray 2. Terminal works
+-- out its face exactly at the point; class 3 turns the answer over.)
 pub record ByTheLeaf (sheet map : List ℕ) (p : Point) : Type 0 where
   pub number : ℕ
   pub holds : Holds map p number
-  pub answer : lookupOf sheet map p ≡ Done (answerOf (recordsOf sheet) (nthLeaf map number) p)
+  pub white : nthLeaf map number .class ≡ 0 → zoneLookupOf sheet map p ≡ reply 0 0
+  pub black : nthLeaf map number .class ≡ 1 → zoneLookupOf sheet map p ≡ reply 0 1
+  pub terminal : nthLeaf map number .class ≡ 2 → zoneLookupOf sheet map p ≡ reply 0 (cond (holdsAt (recordsOf sheet) (nthLeaf map number .face) (whole p)) 1 0)
+  pub complement : nthLeaf map number .class ≡ 3 → zoneLookupOf sheet map p ≡ reply 0 (cond (not (holdsAt (recordsOf sheet) (nthLeaf map number .face) (whole p))) 1 0)
+  pub gray : nthLeaf map number .class ≡ 4 → zoneLookupOf sheet map p ≡ reply 0 2
 
 pub record Demand2 : Type 0 where
   pub the-map : (sheet map : List ℕ) (built : Built sheet map) → TheMap sheet map built
-  pub can-look-up : (sheet map : List ℕ) → Built sheet map → (p : Point) → holdsPoint (rootCube (rootOf map)) p ≡ true → CanLookUp sheet map p
+  pub can-look-up : (sheet map : List ℕ) → Built sheet map → (p : Point) → InRoot (rootOf map) p → CanLookUp sheet map p
   pub by-the-leaf : (sheet map : List ℕ) (p : Point) → CanLookUp sheet map p → ByTheLeaf sheet map p
-  pub by-its-face : (rs : List Record) (f : ℕ) (p : Point) → hasFace rs f ≡ true → faceHolds rs f p ≡ holdsAt rs f (whole p)
 
 -- 3. If a point is in a white leaf's closed cube it is outside the solid; in a black one, inside; in a terminal one, it agrees with the named face or with its
 -- complement, as marked.
@@ -76,10 +82,10 @@ pub record Demand3 : Type 0 where
   pub no-touch : (sheet one other : List ℕ) → Built sheet one → Built sheet other → (p : FractionalPoint) (i j : ℕ)
       → nthLeaf one i .class ≡ 0 → nthLeaf other j .class ≡ 1 → Touches one p i → Touches other p j → ⊥
   -- in every map that opens, each whole point of the root is in one leaf, and each point of the closed root in the closed cube of some leaf
-  pub tiling : (named : ℕ → Bool) (map : List ℕ) → faultOf named map ≡ [] → (p : Point) → holdsPoint (rootCube (rootOf map)) p ≡ true → ExactlyOne (Holds map p)
-  pub covering : (named : ℕ → Bool) (map : List ℕ) → faultOf named map ≡ [] → (p : FractionalPoint) → InClosed (rootCube (rootOf map)) p → (i : ℕ) × Touches map p i
-  -- where a lookup in a built map answers inside (true) or outside (false), that is the truth of the solid there
-  pub truth : (sheet map : List ℕ) → Built sheet map → (p : Point) (side : Bool) → lookupOf sheet map p ≡ Done (sideOf side) → inSolid (recordsOf sheet) (whole p) ≡ side
+  pub tiling : (map : List ℕ) → zoneOpenOf map .code ≡ 0 → (p : Point) → InRoot (rootOf map) p → ExactlyOne (Holds map p)
+  pub covering : (map : List ℕ) → zoneOpenOf map .code ≡ 0 → (p : FractionalPoint) → InClosedRoot (rootOf map) p → (i : ℕ) × Touches map p i
+  -- where a lookup in a built map answers 1, inside, or 0, outside, that is the truth of the solid there
+  pub truth : (sheet map : List ℕ) → Built sheet map → (p : Point) (inside : Bool) → zoneLookupOf sheet map p ≡ reply 0 (cond inside 1 0) → inSolid (recordsOf sheet) (whole p) ≡ inside
 
 -- the three demands, and the eleven rows marked P
 pub record Demands : Type 0 where

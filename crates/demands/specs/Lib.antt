@@ -1,4 +1,5 @@
 pub mod Terms
+pub mod Table
 pub mod Rows
 pub mod Demands
 pub mod Contract

@@ -8,7 +8,8 @@ use Rattle.interval.specs.declared.Interval.{Interval}
 use Rattle.interval.specs.Rules.{from}
 use Rattle.sheet.specs.declared.Record.{Record}
 use Rattle.sheet.specs.declared.Record.the-variants.{Constant, X, Difference, Product, Square, Face}
-use Rattle.sheet.proofs.StepRoom.{stepSheet}
+use Rattle.sheet.specs.Records.{recordsOf}
+use Rattle.sheet.specs.StepRoom.{stepSheet}
 use Rattle.cube.specs.declared.Root.{Root}
 use Rattle.cube.specs.declared.Cube.{Cube}
 use Rattle.cube.specs.declared.Point.{Point}
@@ -19,13 +20,10 @@ use Rattle.colour.specs.Entries.{blank, entries}
 use Rattle.zonemap.specs.declared.Leaf.{Leaf}
 use Rattle.zonemap.specs.Map.{mapOf}
 use Rattle.zonemap.specs.Opening.{leavesOf}
-use Rattle.zonemap.proofs.Rows.{stepRoot, stepMap}
-use Rattle.build.specs.declared.Reply.the-variants.{Done as Built, Short}
-use Rattle.build.specs.Solid.{solidState, leavesBelow}
-use Rattle.build.specs.Build.{outcome, buildOf}
-use Rattle.lookup.specs.declared.Answer.the-variants.{Outside, Inside, Undecided}
-use Rattle.lookup.specs.declared.Reply.the-variants.{Done, NotInRoot}
-use Rattle.lookup.specs.Lookup.{leafHolding, lookupOf}
+use Rattle.zonemap.specs.StepRoom.{stepRoot, stepMap}
+use Rattle.build.specs.Solid.{solidState}
+use Rattle.lookup.specs.Lookup.{leafHolding}
+use Rattle.zone.specs.Replies.{reply, zoneOutcome, zoneBuildOf, zoneLookupOf}
 
 -- one claim of a list of statements: all of them hold
 unfoldable pub AllHold : List (Type 0) → Type 0
@@ -35,9 +33,13 @@ AllHold (row ∷ rows) = row × AllHold rows
 abbrev leaf : ℕ → ℕ → ℕ → Leaf
 leaf level class face = record { level = level; class = class; face = face }
 
--- building S at depth d, into any buffer that has room, answers so many bytes with this map
+-- zone_build of S at depth d, into any buffer that has room, gives code 0 with the number of bytes, and this map
 abbrev Builds : ℕ → ℕ → List ℕ → Type 0
-Builds d size map = (out : List ℕ) → size ≤ length out → buildOf stepSheet (stepRoot d) out ≡ outcome (Built size) (map ++ drop size out)
+Builds d size map = (out : List ℕ) → size ≤ length out → zoneBuildOf stepSheet (stepRoot d) out ≡ zoneOutcome (reply 0 size) (map ++ drop size out)
+
+-- zone_lookup in the map of S at depth 1
+abbrev LooksUp : Point → ℕ → ℕ → Type 0
+LooksUp p code number = zoneLookupOf stepSheet stepMap p ≡ reply code number
 
 -- black, face 5, face 6, and then what becomes of the gray cube, twice
 abbrev twice : List Leaf → List Leaf
@@ -62,17 +64,17 @@ elevenRows =
     -- S at d 0: one leaf, level 0, gray, 22 bytes.
     (Builds 0 22 (mapOf (stepRoot 0) (leaf 0 4 0 ∷ [])))
     -- S at d 1: 8 leaves, 43 bytes, as above; a 42-byte buffer gives 8 with 43.
-    ∷ (Builds 1 43 stepMap × (leavesOf stepMap ≡ twice (leaf 1 4 0 ∷ [])) × ((out : List ℕ) → length out ≡ 42 → buildOf stepSheet (stepRoot 1) out ≡ outcome (Short 43) out))
+    ∷ (Builds 1 43 stepMap × (leavesOf stepMap ≡ twice (leaf 1 4 0 ∷ [])) × ((out : List ℕ) → length out ≡ 42 → zoneBuildOf stepSheet (stepRoot 1) out ≡ zoneOutcome (reply 8 43) out))
     -- S at d 2: 22 leaves, 85 bytes; each gray cube becomes gray, white, white, white, twice.
     ∷ (Builds 2 85 (mapOf (stepRoot 2) (twice (grayThenWhite ++ grayThenWhite))))
     -- lookup in the d 1 map: (2,0,0) inside by face 5.
-    ∷ ((lookupOf stepSheet stepMap (at 2 0) ≡ Done Inside) × (leafHolding stepMap (at 2 0) ≡ leaf 1 2 5))
+    ∷ (LooksUp (at 2 0) 0 1 × (leafHolding stepMap (at 2 0) ≡ leaf 1 2 5))
     -- (3,0,0) outside.
-    ∷ (lookupOf stepSheet stepMap (at 3 0) ≡ Done Outside)
+    ∷ LooksUp (at 3 0) 0 0
     -- (2,2,0) undecided.
-    ∷ (lookupOf stepSheet stepMap (at 2 2) ≡ Done Undecided)
+    ∷ LooksUp (at 2 2) 0 2
     -- (4,0,0): 10.
-    ∷ (lookupOf stepSheet stepMap (at 4 0) ≡ NotInRoot)
+    ∷ LooksUp (at 4 0) 10 0
     -- x(10-x) over x from 4 to 6: [16, 36].
     ∷ (boundsAt (along (pos 4) 2) (X ∷ Constant (pos 10) ∷ Difference 1 0 ∷ Product 0 2 ∷ []) 3 ≡ from (pos 16) (pos 36))
     -- square over [-3, 2]: [0, 9]; the product of x by itself there: [-6, 9].
@@ -80,6 +82,6 @@ elevenRows =
     -- bounds [-2, 0]: In. Bounds [0, 2]: Single.
     ∷ ((f : ℕ) → (faceState (from (negsuc 1) (pos 0)) f ≡ In) × (faceState (from (pos 0) (pos 2)) f ≡ Single f))
     -- a sheet whose only logical record is a face, Single over the root, gives one leaf at any depth: level 0, class 2, that face.
-    ∷ ((rs : List Record) (a : ℕ) (root : Root) → solidState (rs ++ Face a ∷ []) (rootCube root) ≡ Single (length rs)
-    → leavesBelow (rs ++ Face a ∷ []) (root .d) (rootCube root) ≡ leaf 0 2 (length rs) ∷ [])
+    ∷ ((sheet : List ℕ) (rs : List Record) (a : ℕ) (root : Root) (out : List ℕ) → recordsOf sheet ≡ rs ++ Face a ∷ [] → solidState (rs ++ Face a ∷ []) (rootCube root) ≡ Single (length rs)
+    → zoneBuildOf sheet root out .reply .code ≡ 0 → zoneBuildOf sheet root out ≡ zoneOutcome (reply 0 22) (mapOf root (leaf 0 2 (length rs) ∷ []) ++ drop 22 out))
     ∷ []

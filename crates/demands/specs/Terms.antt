@@ -1,27 +1,33 @@
--- What the demands speak of: a built map, its leaves as its own bytes place them, and the inputs that get done. Assumes nothing: these are definitions.
+-- What the demands speak of, in document 01's words and numbers: a built map, its leaves as its own bytes place them, and the inputs that no row of the
+-- table of replies refuses. Assumes nothing: these are definitions.
 use mathlib.Core.Path.{_≡_}
-use mathlib.Core.Bool.{true}
+use mathlib.Core.Bool.{Bool, true}
 use mathlib.Core.List.{List, []}
-use Prim.Native.Nat.{ℕ, _≤_, _<_}
+use Prim.Native.Nat.{ℕ, _+_, _-_, _*_, _%_, _^_, _≤_, _<_}
 use lib.ListN.{length, getD, take}
-use Rattle.sheet.specs.declared.Checked.the-variants.{Good}
-use Rattle.sheet.specs.Records.{recordsOf}
-use Rattle.sheet.specs.Check.{checkOf}
+use Rattle.bigendian.specs.Numbers.{unsignedAt}
+use Rattle.interval.specs.Limit.{SmallEnds}
+use Rattle.sheet.specs.declared.Record.{Record}
+use Rattle.sheet.specs.declared.Record.the-variants.{X}
+use Rattle.sheet.specs.declared.Sort.the-variants.{Neither, Logical}
+use Rattle.sheet.specs.Records.{recordsOf, stopOf}
+use Rattle.sheet.specs.Operands.{sortOf, askedOf, firstOf, secondOf, lastSort}
 use Rattle.kinds.specs.Faces.{hasFace}
 use Rattle.cube.specs.declared.Root.{Root}
 use Rattle.cube.specs.declared.Cube.{Cube}
 use Rattle.cube.specs.declared.Point.{Point}
-use Rattle.cube.specs.Limits.{inLimits}
+use Rattle.cube.specs.Limits.{WithinLimits}
 use Rattle.cube.specs.Cubes.{rootCube, cubeAt}
-use Rattle.cube.specs.Points.{holdsPoint}
+use Rattle.cube.specs.Points.{holdsPoint, InRoot}
 use Rattle.meaning.specs.Fractions.{FractionalPoint, InClosed}
-use Rattle.colour.specs.Entries.{pastOf}
+use Rattle.colour.specs.Entries.{blank, entries}
 use Rattle.zonemap.specs.declared.Leaf.{Leaf}
-use Rattle.zonemap.specs.Opening.{rootOf, leavesOf, faultOf}
+use Rattle.zonemap.specs.Opening.{rootOf, leavesOf}
 use Rattle.zonemap.specs.Leaves.{placeAt, nowhere}
-use Rattle.build.specs.declared.Reply.the-variants.{Done}
 use Rattle.build.specs.Solid.{pastsOf}
-use Rattle.build.specs.Build.{outcome, builtMap, buildOf}
+use Rattle.build.specs.Build.{builtMap}
+use Rattle.zone.specs.declared.ZoneReply.{ZoneReply}
+use Rattle.zone.specs.Replies.{reply, zoneOutcome, zoneBuildOf}
 
 -- one fits, and no second one does
 pub record ExactlyOne {A : Type 0} (Fits : A → Type 0) : Type 0 where
@@ -29,21 +35,29 @@ pub record ExactlyOne {A : Type 0} (Fits : A → Type 0) : Type 0 where
   pub fits : Fits one
   pub no-second : (other : A) → Fits other → other ≡ one
 
--- a map built from a sheet: building answered 0 with a size, over some root and into some buffer, and the map is so many bytes of the buffer afterwards
+-- code 0, with this number, exactly where all is fine
+pub record DoneWhere (Fine : Type 0) (r : ZoneReply) (number : ℕ) : Type 0 where
+  pub done : Fine → r ≡ reply 0 number
+  pub only : r .code ≡ 0 → Fine
+
+-- a map built from a sheet: zone_build gave code 0 with a size, over some root and into some buffer, and the map is that many bytes of the buffer afterwards
 pub record Built (sheet map : List ℕ) : Type 0 where
   pub root : Root
   pub before : List ℕ
   pub after : List ℕ
   pub size : ℕ
-  pub answered : outcome (Done size) after ≡ buildOf sheet root before
+  pub answered : zoneOutcome (reply 0 size) after ≡ zoneBuildOf sheet root before
   pub bytes : map ≡ take size after
 
--- ---- leaf i of a map, and its cube, as the map's own bytes place it
+-- ---- leaf i of a map, its place and its cube, as the map's own bytes give them
 abbrev pub nthLeaf : List ℕ → ℕ → Leaf
 nthLeaf map i = getD (leavesOf map) i nowhere
 
+abbrev pub nthPlace : List ℕ → ℕ → ℕ
+nthPlace map i = placeAt (rootOf map .d) i (leavesOf map)
+
 abbrev pub nthCube : List ℕ → ℕ → Cube
-nthCube map i = cubeAt (rootOf map) (placeAt (rootOf map .d) i (leavesOf map)) (nthLeaf map i .level)
+nthCube map i = cubeAt (rootOf map) (nthPlace map i) (nthLeaf map i .level)
 
 -- a whole point is in leaf i, high planes left out
 pub record Holds (map : List ℕ) (p : Point) (i : ℕ) : Type 0 where
@@ -55,18 +69,56 @@ pub record Touches (map : List ℕ) (p : FractionalPoint) (i : ℕ) : Type 0 whe
   pub among : i < length (leavesOf map)
   pub closed : InClosed (nthCube map i) p
 
--- ---- the inputs that no row of the table refuses
--- of building: a good sheet, a root and a depth in limits, no record past 2^60, and room for the map
+-- ---- what the rows of the table ask
+-- An operand is the number of an earlier record, of the sort that record i asks.
+abbrev pub Operand : List Record → ℕ → ℕ → Type 0
+Operand rs i a = (a < i) × (sortOf (getD rs a X) ≡ askedOf (getD rs i X))
+
+-- rows 1 to 5: the length agrees, the version is 1, each byte is of a record, each operand is met, and the last record is logical
+pub record GoodSheet (sheet : List ℕ) : Type 0 where
+  pub long : 3 ≤ length sheet
+  pub agrees : unsignedAt 2 sheet 0 + 2 ≡ length sheet
+  pub version : getD sheet 2 0 ≡ 1
+  pub framed : length sheet ≤ stopOf sheet
+  pub operands : (i : ℕ) → i < length (recordsOf sheet) → (askedOf (getD (recordsOf sheet) i X) ≡ Neither → ⊥)
+      → Operand (recordsOf sheet) i (firstOf (getD (recordsOf sheet) i X)) × Operand (recordsOf sheet) i (secondOf (getD (recordsOf sheet) i X))
+  pub solid : lastSort (recordsOf sheet) ≡ Logical
+
+-- row 9, of leaf i: level at most d, class at most 4, gray only at level d, face 0 unless class 2 or 3, and then one that may be named; the place is a
+-- multiple of the leaf's own 8^(d-level), and the leaf ends at or before 8^d
+pub record GoodLeaf (named : ℕ → Bool) (map : List ℕ) (i : ℕ) : Type 0 where
+  pub level : nthLeaf map i .level ≤ rootOf map .d
+  pub class : nthLeaf map i .class ≤ 4
+  pub gray : nthLeaf map i .class ≡ 4 → nthLeaf map i .level ≡ rootOf map .d
+  pub terminal : nthLeaf map i .class ≡ 2 → named (nthLeaf map i .face) ≡ true
+  pub complement : nthLeaf map i .class ≡ 3 → named (nthLeaf map i .face) ≡ true
+  pub other : (nthLeaf map i .class ≡ 2 → ⊥) → (nthLeaf map i .class ≡ 3 → ⊥) → nthLeaf map i .face ≡ 0
+  pub multiple : nthPlace map i % 8 ^ (rootOf map .d - nthLeaf map i .level) ≡ 0
+  pub end : nthPlace map i + 8 ^ (rootOf map .d - nthLeaf map i .level) ≤ 8 ^ rootOf map .d
+
+-- row 9: the length agrees and is 15 + 3n, the version is 1, root and depth are in limits, the leaves are good, and the sum over all is exactly 8^d
+pub record Opens (named : ℕ → Bool) (map : List ℕ) : Type 0 where
+  pub agrees : unsignedAt 4 map 0 + 4 ≡ length map
+  pub leaves : unsignedAt 4 map 0 ≡ 15 + 3 * length (leavesOf map)
+  pub version : getD map 4 0 ≡ 1
+  pub limits : WithinLimits (rootOf map)
+  pub good : (i : ℕ) → i < length (leavesOf map) → GoodLeaf named map i
+  pub whole : nthPlace map (length (leavesOf map)) ≡ 8 ^ rootOf map .d
+
+-- rows 7 and 11: each record's bounds over a cube lie in -2^60 to 2^60
+abbrev pub Bounded : List Record → Cube → Type 0
+Bounded rs q = (i : ℕ) → SmallEnds (getD (entries q rs) i blank .bounds)
+
+-- ---- the inputs that no row refuses
 pub record CanBuild (sheet : List ℕ) (root : Root) (before : List ℕ) : Type 0 where
-  pub good : (n : ℕ) × (checkOf sheet ≡ Good n)
-  pub limits : inLimits root ≡ true
-  pub over-root : pastOf (recordsOf sheet) (rootCube root) ≡ []
-  pub over-smaller : pastsOf (recordsOf sheet) (root .d) (rootCube root) ≡ []
+  pub good : GoodSheet sheet
+  pub limits : WithinLimits root
+  pub bounded : Bounded (recordsOf sheet) (rootCube root)
+  pub bounded-below : pastsOf (recordsOf sheet) (root .d) (rootCube root) ≡ []
   pub room : length (builtMap (recordsOf sheet) root) ≤ length before
 
--- of looking up: a good sheet, a map that opens with its faces, no record past 2^60 over the map's root, and a position in the root
 pub record CanLookUp (sheet map : List ℕ) (p : Point) : Type 0 where
-  pub good : (n : ℕ) × (checkOf sheet ≡ Good n)
-  pub opens : faultOf (hasFace (recordsOf sheet)) map ≡ []
-  pub over-root : pastOf (recordsOf sheet) (rootCube (rootOf map)) ≡ []
-  pub inside : holdsPoint (rootCube (rootOf map)) p ≡ true
+  pub good : GoodSheet sheet
+  pub opens : Opens (hasFace (recordsOf sheet)) map
+  pub bounded : Bounded (recordsOf sheet) (rootCube (rootOf map))
+  pub inside : InRoot (rootOf map) p

@@ -8,14 +8,15 @@ use Rattle.bigendian.specs.Numbers.{unsignedAt, signed32}
 use Rattle.interval.specs.Rules.{difference}
 use Rattle.interval.specs.Limit.{isSmall, isWithin}
 use Rattle.sheet.specs.Along.{along, onward}
-use Rattle.sheet.proofs.StepRoom.{stepSheet, stepRecords, step-records, step-check}
+use Rattle.sheet.specs.StepRoom.{stepSheet, stepRecords}
+use Rattle.sheet.proofs.StepRoom.{step-records, step-check}
 use Rattle.kinds.specs.Faces.{hasFace}
 use Rattle.cube.specs.declared.Point.{Point}
 use Rattle.cube.specs.Limits.{axisFits, sizesFit, inLimits}
 use Rattle.cube.specs.Cubes.{rootCube}
 use Rattle.cube.specs.Points.{axisHolds, holdsPoint, pointCube, placeBy, placeOf}
 use Rattle.zonemap.specs.Opening.{lengthGood, rootOf, leafIn, leavesIn, levelGood, faceGood, placeGood, leafGood, leavesFault, headerFault, faultOf, leafAt}
-use Rattle.zonemap.proofs.Rows.{stepMap}
+use Rattle.zonemap.specs.StepRoom.{stepMap}
 use Rattle.colour.specs.Bounds.{across, boundsOf}
 use Rattle.colour.specs.States.{faceState, bothOf, stateOf}
 use Rattle.colour.specs.Entries.{entryOf, beforePast, pastOf}

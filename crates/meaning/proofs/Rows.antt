@@ -8,7 +8,7 @@ use lib.IntN.{pos}
 use Rattle.sheet.specs.declared.Record.{Record}
 use Rattle.sheet.specs.declared.Record.the-variants.{Constant, X, Y, Z, Sum, Difference, Product, Square, Face, Either, Complement}
 use Rattle.sheet.specs.Along.{along, onward}
-use Rattle.sheet.proofs.StepRoom.{stepRecords}
+use Rattle.sheet.specs.StepRoom.{stepRecords}
 use Rattle.meaning.specs.Fractions.{FractionalPoint}
 use Rattle.meaning.specs.Truth.{valueOf, holdsOf, meantOf, holdsAt, inSolid}
 

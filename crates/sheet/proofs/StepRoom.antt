@@ -1,24 +1,12 @@
--- Document 01's sheet S, of the step room, and what is read of it. Assumes nothing.
+-- What is read of the step room's sheet. Assumes nothing.
 use mathlib.Core.Path.{_≡_, refl}
-use mathlib.Core.List.{List, [], _∷_}
-use Prim.Native.Nat.{ℕ}
-use lib.IntN.{pos}
 use Rattle.bigendian.specs.Numbers.{unsignedAt, signed32}
-use Rattle.sheet.specs.declared.Record.{Record}
-use Rattle.sheet.specs.declared.Record.the-variants.{Constant, X, Y, Difference, Face, Both}
 use Rattle.sheet.specs.declared.Checked.the-variants.{Good}
+use Rattle.sheet.specs.StepRoom.{stepSheet, stepRecords}
 use Rattle.sheet.specs.Table.{rowOf, rowAt, readAt}
 use Rattle.sheet.specs.Records.{readFrom, reading, recordsOf}
 use Rattle.sheet.specs.Operands.{firstUnmet, lastSort}
 use Rattle.sheet.specs.Check.{sortedOf, checkOf}
-
--- the solid is x at most 2 and y at most 2
-pub stepSheet : List ℕ
-stepSheet = 0 ∷ 29 ∷ 1 ∷ 1 ∷ 2 ∷ 1 ∷ 3 ∷ 5 ∷ 1 ∷ 0 ∷ 0 ∷ 0 ∷ 2 ∷ 3 ∷ 6 ∷ 0 ∷ 2 ∷ 3 ∷ 6 ∷ 1 ∷ 2 ∷ 2 ∷ 16 ∷ 3 ∷ 2 ∷ 16 ∷ 4 ∷ 3 ∷ 17 ∷ 5 ∷ 6 ∷ []
-
--- its records
-abbrev pub stepRecords : List Record
-stepRecords = X ∷ Y ∷ Constant (pos 2) ∷ Difference 0 2 ∷ Difference 1 2 ∷ Face 3 ∷ Face 4 ∷ Both 5 6 ∷ []
 
 pub step-records : recordsOf stepSheet ≡ stepRecords
 unfolding stepSheet reading readFrom readAt rowAt rowOf signed32 unsignedAt

@@ -3,3 +3,4 @@ pub mod Records
 pub mod Operands
 pub mod Check
 pub mod Along
+pub mod StepRoom

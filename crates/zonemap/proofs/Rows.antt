@@ -4,35 +4,20 @@ use mathlib.Core.Bool.{Bool, _||_}
 use mathlib.Core.List.{List, [], _∷_, _++_}
 use Prim.Native.Nat.{ℕ}
 use lib.Dec.{eqb}
-use lib.IntN.{pos}
 use Rattle.bigendian.specs.Numbers.{bytesOf, unsigned32, unsignedAt, signed32}
-use Rattle.cube.specs.declared.Root.{Root}
 use Rattle.cube.specs.Limits.{axisFits, sizesFit, inLimits}
 use Rattle.zonemap.specs.declared.Leaf.{Leaf}
+use Rattle.zonemap.specs.StepRoom.{stepRoot, stepMap}
 use Rattle.zonemap.specs.Map.{leafBytes, leavesBytes, cornerBytes, headerOf, mapOf}
 use Rattle.zonemap.specs.Opening.{lengthGood, rootOf, leafIn, leavesIn, levelGood, faceGood, placeGood, leafGood, leavesFault, headerFault, faultOf, leafAt, offsetAt}
-
--- root 0 0 0, k 2, at depth d
-abbrev pub stepRoot : ℕ → Root
-stepRoot d = record { x = pos 0; y = pos 0; z = pos 0; k = 2; d = d }
 
 -- a leaf of level 1
 abbrev leaf : ℕ → ℕ → Leaf
 leaf class face = record { level = 1; class = class; face = face }
 
--- four of the eight leaves, and their bytes
+-- four of the eight leaves
 abbrev four : List Leaf
 four = leaf 1 0 ∷ leaf 2 5 ∷ leaf 2 6 ∷ leaf 4 0 ∷ []
-
-abbrev bytes : List ℕ
-bytes = 1 ∷ 1 ∷ 0 ∷ 1 ∷ 2 ∷ 5 ∷ 1 ∷ 2 ∷ 6 ∷ 1 ∷ 4 ∷ 0 ∷ []
-
-abbrev zeros : List ℕ
-zeros = 0 ∷ 0 ∷ 0 ∷ 0 ∷ 0 ∷ 0 ∷ 0 ∷ 0 ∷ 0 ∷ 0 ∷ 0 ∷ 0 ∷ []
-
--- the map at depth 1
-abbrev pub stepMap : List ℕ
-stepMap = 0 ∷ 0 ∷ 0 ∷ 39 ∷ 1 ∷ [] ++ zeros ++ 2 ∷ 1 ∷ [] ++ bytes ++ bytes
 
 step-room : mapOf (stepRoot 1) (four ++ four) ≡ stepMap
 unfolding mapOf headerOf cornerBytes leavesBytes leafBytes bytesOf unsigned32

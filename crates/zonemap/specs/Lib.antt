@@ -1,3 +1,4 @@
 pub mod Map
 pub mod Opening
 pub mod Leaves
+pub mod StepRoom

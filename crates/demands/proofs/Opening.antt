@@ -1,0 +1,192 @@
+-- What it is that a map opens: the first fault is none exactly where the length, the version, the root and every leaf at its own place are good. Assumes nothing.
+use mathlib.Core.Path.{_≡_, refl, sym, ap, _∙_}
+use mathlib.Core.Bool.{Bool, true, false, cond, not, _&&_, _||_, and-eq-true-iff}
+use mathlib.Core.List.{List, [], _∷_}
+use Prim.Native.Nat.{ℕ, _+_, _-_, _*_, _/_, _%_, _^_, _≤_, _<_}
+use native.Mathlib.Omega.{arith}
+use borrow.Author.Tests.{eqb-true, eqb-false, eq-eqb, ne-eqb, leb-true, le-leb}
+use lib.Dec.{eqb, leb}
+use lib.ListN.{length, getD}
+use Rattle.bigendian.specs.Numbers.{unsignedAt}
+use Rattle.integers.proofs.First.{none-first}
+use Rattle.integers.proofs.Order.{by-test}
+use Rattle.cube.specs.Limits.{inLimits}
+use Rattle.cube.proofs.Numbers.{within-limits, limits-within}
+use Rattle.zonemap.specs.declared.Leaf.{Leaf}
+use Rattle.zonemap.specs.declared.Opened.{Opened}
+use Rattle.zonemap.specs.declared.Opened.the-variants.{Good, Bad}
+use Rattle.zonemap.specs.Map.{mapVersion}
+use Rattle.zonemap.specs.Opening.{lengthGood, rootOf, leavesOf, sizeOf, levelGood, faceGood, placeGood, leafGood, leavesFault, headerFault, faultOf, anyFace, openOf}
+use Rattle.zonemap.specs.Leaves.{placeAt}
+use Rattle.zonemap.proofs.Runs.{Fine, run-at, run-end, at-run, opens-run, run-opens, one-fault}
+use Rattle.zonemap.proofs.Found.{leaves-count, opens-parts}
+use Rattle.zone.specs.Replies.{reply, openedByNumber, zoneOpenOf}
+use Rattle.demands.specs.Terms.{DoneWhere, nthLeaf, nthPlace, GoodLeaf, Opens}
+
+-- ---- one leaf
+module _ (d : ℕ) (l : Leaf) where
+  level-told : levelGood d l ≡ true → (l .level ≤ d) × (l .class ≤ 4) × (l .class ≡ 4 → l .level ≡ d)
+  unfolding levelGood
+  level-told e =
+      let t = and-eq-true-iff (leb (l .level) d && leb (l .class) 4) _ .0 e in
+      let u = and-eq-true-iff (leb (l .level) d) (leb (l .class) 4) .0 (t .0) in
+      (leb-true _ _ (u .0), leb-true _ _ (u .1), λ c. eqb-true _ _ (rw c at (t .1)))
+
+  level-good : l .level ≤ d → l .class ≤ 4 → (l .class ≡ 4 → l .level ≡ d) → levelGood d l ≡ true
+  unfolding levelGood
+  level-good h c g =
+      rw (le-leb _ _ h, le-leb _ _ c) (by-test (eqb (l .class) 4) (λ t. rw (t, eq-eqb _ _ (g (eqb-true _ _ t)))) (λ t. rw t))
+
+  face-told : (named : ℕ → Bool) → faceGood named l ≡ true → (l .class ≡ 2 → named (l .face) ≡ true) × (l .class ≡ 3 → named (l .face) ≡ true) × ((l .class ≡ 2 → ⊥) → (l .class ≡ 3 → ⊥) → l .face ≡ 0)
+  unfolding faceGood
+  face-told named e = (λ c. rw c at e, λ c. rw c at e, λ m n. eqb-true _ _ (rw (ne-eqb _ _ m, ne-eqb _ _ n) at e))
+
+  face-good : (named : ℕ → Bool) → (l .class ≡ 2 → named (l .face) ≡ true) → (l .class ≡ 3 → named (l .face) ≡ true) → ((l .class ≡ 2 → ⊥) → (l .class ≡ 3 → ⊥) → l .face ≡ 0) → faceGood named l ≡ true
+  unfolding faceGood
+  face-good named two three other =
+      by-test (eqb (l .class) 2)
+      (λ t. rw (t, two (eqb-true _ _ t)))
+      (λ t. by-test (eqb (l .class) 3)
+      (λ u. rw (t, u, three (eqb-true _ _ u)))
+      (λ u. rw (t, u, other (eqb-false _ _ t) (eqb-false _ _ u))))
+
+  place-told : (place : ℕ) → placeGood d place l ≡ true → (place % sizeOf d l ≡ 0) × (place + sizeOf d l ≤ 8 ^ d)
+  unfolding placeGood
+  place-told place e = let t = and-eq-true-iff (eqb (place % sizeOf d l) 0) _ .0 e in (eqb-true _ _ (t .0), leb-true _ _ (t .1))
+
+  place-good : (place : ℕ) → place % sizeOf d l ≡ 0 → place + sizeOf d l ≤ 8 ^ d → placeGood d place l ≡ true
+  unfolding placeGood
+  place-good place m h = rw (m, le-leb _ _ h)
+
+module _ (named : ℕ → Bool) (map : List ℕ) (i : ℕ) where
+  leaf-told : Fine named (rootOf map .d) (nthPlace map i) (nthLeaf map i) → GoodLeaf named map i
+  unfolding leafGood
+  leaf-told e =
+      let d : ℕ = rootOf map .d in
+      let l : Leaf = nthLeaf map i in
+      let t = and-eq-true-iff (levelGood d l && faceGood named l) (placeGood d (nthPlace map i) l) .0 e in
+      let u = and-eq-true-iff (levelGood d l) (faceGood named l) .0 (t .0) in
+      let level = level-told d l (u .0) in
+      let face = face-told d l named (u .1) in
+      let place = place-told d l (nthPlace map i) (t .1) in
+      record {
+        level = level .0;
+        class = level .1;
+        gray = level .2;
+        terminal = face .0;
+        complement = face .1;
+        other = face .2;
+        multiple = place .0;
+        end = place .1;
+      }
+
+  leaf-good : GoodLeaf named map i → Fine named (rootOf map .d) (nthPlace map i) (nthLeaf map i)
+  unfolding leafGood
+  leaf-good g =
+      let d : ℕ = rootOf map .d in
+      let l : Leaf = nthLeaf map i in
+      rw (level-good d l (g .level) (g .class) (g .gray), face-good d l named (g .terminal) (g .complement) (g .other), place-good d l (nthPlace map i) (g .multiple) (g .end))
+
+-- ---- the length, which is that of so many leaves
+module _ (map : List ℕ) where
+  counted : length (leavesOf map) ≡ (length map - 19) / 3
+  counted = leaves-count map ((length map - 19) / 3) 19
+
+  length-told : lengthGood map ≡ true → (unsignedAt 4 map 0 + 4 ≡ length map) × (unsignedAt 4 map 0 ≡ 15 + 3 * length (leavesOf map))
+  unfolding lengthGood
+  length-told e =
+      let t = and-eq-true-iff (eqb (unsignedAt 4 map 0 + 4) (length map) && leb 15 (unsignedAt 4 map 0)) _ .0 e in
+      let u = and-eq-true-iff (eqb (unsignedAt 4 map 0 + 4) (length map)) (leb 15 (unsignedAt 4 map 0)) .0 (t .0) in
+      let same : unsignedAt 4 map 0 + 4 ≡ length map = eqb-true _ _ (u .0) in
+      let some : 15 ≤ unsignedAt 4 map 0 = leb-true _ _ (u .1) in
+      let thirds : unsignedAt 4 map 0 % 3 ≡ 0 = eqb-true _ _ (t .1) in
+      (same, omega (arith, same, some, thirds, counted))
+
+  length-good : unsignedAt 4 map 0 + 4 ≡ length map → unsignedAt 4 map 0 ≡ 15 + 3 * length (leavesOf map) → lengthGood map ≡ true
+  unfolding lengthGood
+  length-good same n =
+      let thirds : unsignedAt 4 map 0 % 3 ≡ 0 = omega (arith, n) in
+      rw (eq-eqb _ _ same, le-leb 15 (unsignedAt 4 map 0) (omega (arith, n)), thirds)
+
+-- ---- the whole map
+module _ (named : ℕ → Bool) (map : List ℕ) where
+  abbrev d : ℕ
+  d = rootOf map .d
+
+  header-told : headerFault map ≡ [] → (lengthGood map ≡ true) × (getD map 4 0 ≡ 1) × (inLimits (rootOf map) ≡ true)
+  unfolding headerFault
+  header-told e =
+      by-test (lengthGood map)
+      (λ t. by-test (eqb (getD map 4 0) mapVersion)
+      (λ u. by-test (inLimits (rootOf map))
+      (λ v. (t, eqb-true _ _ u, v))
+      (λ v. absurd (one-fault 5 (rw (t, u, v) at e))))
+      (λ u. absurd (one-fault 4 (rw (t, u) at e))))
+      (λ t. absurd (one-fault 0 (rw t at e)))
+
+  pub opens-told : faultOf named map ≡ [] → Opens named map
+  opens-told e =
+      let p = opens-parts named map e in
+      let h = header-told (p .0) in
+      let l = length-told map (h .0) in
+      let run = opens-run named d 0 19 (leavesOf map) (p .1) in
+      record {
+        agrees = l .0;
+        leaves = l .1;
+        version = h .1;
+        limits = within-limits (rootOf map) (h .2);
+        good = λ i among. leaf-told named map i (let z : 0 + nthPlace map i ≡ nthPlace map i = omega arith in rw z at (run-at (Fine named d) d 0 (8 ^ d) i (leavesOf map) run among));
+        whole = omega (arith, run-end (Fine named d) d 0 (8 ^ d) (leavesOf map) run);
+      }
+
+  pub opens-fault : Opens named map → faultOf named map ≡ []
+  unfolding faultOf headerFault
+  opens-fault o =
+      let run = at-run (Fine named d) d 0 (8 ^ d) (leavesOf map) (λ i among. let z : 0 + nthPlace map i ≡ nthPlace map i = omega arith in rw z (leaf-good named map i (o .good i among))) (omega (arith, o .whole)) in
+      rw (length-good map (o .agrees) (o .leaves), o .version, limits-within (rootOf map) (o .limits)) (run-opens named d 0 19 (leavesOf map) run)
+
+-- a map that opens with some faces opens with any
+any-leaf : (named : ℕ → Bool) (map : List ℕ) (i : ℕ) → GoodLeaf named map i → GoodLeaf anyFace map i
+any-leaf named map i g = record {
+  level = g .level;
+  class = g .class;
+  gray = g .gray;
+  terminal = λ _. refl;
+  complement = λ _. refl;
+  other = g .other;
+  multiple = g .multiple;
+  end = g .end;
+}
+
+pub any-opens : (named : ℕ → Bool) (map : List ℕ) → Opens named map → Opens anyFace map
+any-opens named map o = record {
+  agrees = o .agrees;
+  leaves = o .leaves;
+  version = o .version;
+  limits = o .limits;
+  good = λ i among. any-leaf named map i (o .good i among);
+  whole = o .whole;
+}
+
+-- ---- zone_open
+opened-code : (o : Opened) → openedByNumber o .code ≡ 0 → (n : ℕ) × (o ≡ Good n)
+opened-code (Good n) e = (n, refl)
+opened-code (Bad at) e = absurd (omega arith)
+
+module _ (map : List ℕ) where
+  no-fault : (n : ℕ) → openOf map ≡ Good n → faultOf anyFace map ≡ []
+  unfolding openOf
+  no-fault n e = none-first (λ (o : Opened). o ≡ Good n) Bad _ (faultOf anyFace map) (λ at c. let z : _≡_ {A = ℕ} 0 1 = cc in omega arith) e .0
+
+  -- the map that zone_open opens has no fault
+  pub opened-fault : zoneOpenOf map .code ≡ 0 → faultOf anyFace map ≡ []
+  unfolding zoneOpenOf
+  opened-fault e = let t = opened-code (openOf map) e in no-fault (t .0) (t .1)
+
+  pub opens : DoneWhere (Opens anyFace map) (zoneOpenOf map) (length (leavesOf map))
+  unfolding zoneOpenOf openOf
+  opens = record { done = λ o. rw (opens-fault anyFace map o); only = λ e. opens-told anyFace map (opened-fault e) }
+
+  pub open-row : (at : ℕ) → faultOf anyFace map ≡ at ∷ [] → zoneOpenOf map ≡ reply 9 at
+  unfolding zoneOpenOf openOf
+  open-row at e = rw e

@@ -1,0 +1,127 @@
+-- What zone_check tells of a sheet: code 0 exactly where rows 1 to 5 let it pass, and otherwise the first of them that does not. Assumes nothing.
+use mathlib.Core.Path.{_≡_, refl, sym, _∙_}
+use mathlib.Core.Bool.{Bool, true, false, not, _||_}
+use mathlib.Core.List.{List, []}
+use Prim.Native.Nat.{ℕ, _+_, _≤_, _<_}
+use native.Mathlib.Omega.{arith}
+use borrow.Author.Tests.{eqb-true, eq-eqb, ne-eqb, ltb-false, lt-ltb, le-ltb}
+use lib.Dec.{eqb, ltb}
+use lib.ListN.{length, getD}
+use Rattle.bigendian.specs.Numbers.{unsignedAt}
+use Rattle.integers.proofs.Order.{by-test}
+use Rattle.sheet.specs.declared.Record.{Record}
+use Rattle.sheet.specs.declared.Sort.{Sort}
+use Rattle.sheet.specs.declared.Sort.the-variants.{Neither, Arithmetic, Logical}
+use Rattle.sheet.specs.declared.Refusal.{Refusal}
+use Rattle.sheet.specs.declared.Refusal.the-variants.{Length, Version, Operand, Solid, Record as BadRecord}
+use Rattle.sheet.specs.declared.Checked.{Checked}
+use Rattle.sheet.specs.declared.Checked.the-variants.{Good, Refused}
+use Rattle.sheet.specs.Records.{recordsOf, stopOf}
+use Rattle.sheet.specs.Operands.{firstUnmet, lastSort}
+use Rattle.sheet.specs.Check.{lengthFails, solidOf, sortedOf, checkOf, codeOf}
+use Rattle.sheet.proofs.Unmet.{none-unmet, all-operands, unmet-most}
+use Rattle.zone.specs.Replies.{reply, checkedByNumber, zoneCheckOf}
+use Rattle.demands.specs.Terms.{DoneWhere, GoodSheet}
+use Rattle.demands.specs.Table.{SheetRows}
+
+-- ---- a refusal is not good
+-- no refusal of a sheet has code 0
+pub sheet-code : (why : Refusal) → codeOf why ≡ 0 → ⊥
+sheet-code Length e = omega arith
+sheet-code Version e = omega arith
+sheet-code (BadRecord at) e = omega arith
+sheet-code (Operand n) e = omega arith
+sheet-code (Solid n) e = omega arith
+
+not-good : {A : Type 0} (why : Refusal) (n : ℕ) → Refused why ≡ Good n → A
+not-good why n e = let z : _≡_ {A = ℕ} 0 1 = cc in absurd (omega arith)
+
+-- code 0 is that of `Good` alone
+pub good-code : (checked : Checked) → checkedByNumber checked .code ≡ 0 → (n : ℕ) × (checked ≡ Good n)
+good-code (Good n) e = (n, refl)
+good-code (Refused why) e = absurd (sheet-code why e)
+
+-- ---- the length
+module _ (s : List ℕ) where
+  length-told : lengthFails s ≡ false → (3 ≤ length s) × (unsignedAt 2 s 0 + 2 ≡ length s)
+  length-told e =
+      by-test (ltb (length s) 3)
+      (λ t. let z : true ≡ false = rw t at e in let y : _≡_ {A = ℕ} 0 1 = cc in absurd (omega arith))
+      (λ t. (
+        ltb-false (length s) 3 t,
+        by-test (eqb (unsignedAt 2 s 0 + 2) (length s)) (λ u. eqb-true _ _ u)
+            (λ u. let z : true ≡ false = rw (t, u) at e in let y : _≡_ {A = ℕ} 0 1 = cc in absurd (omega arith)),
+      ))
+
+  length-good : 3 ≤ length s → unsignedAt 2 s 0 + 2 ≡ length s → lengthFails s ≡ false
+  length-good h e = rw (le-ltb (length s) 3 h, eq-eqb _ _ e)
+
+-- ---- the records
+solid-told : (sort : Sort) (m n : ℕ) → solidOf sort m ≡ Good n → sort ≡ Logical
+solid-told Neither m n e = not-good (Solid m) n e
+solid-told Arithmetic m n e = not-good (Solid m) n e
+solid-told Logical m n e = refl
+
+solid-refused : (sort : Sort) (m : ℕ) → (sort ≡ Logical → ⊥) → solidOf sort m ≡ Refused (Solid m)
+solid-refused Neither m h = refl
+solid-refused Arithmetic m h = refl
+solid-refused Logical m h = absurd (h refl)
+
+sorted-told : (rs : List Record) (n : ℕ) → sortedOf rs ≡ Good n → (firstUnmet [] rs ≡ length rs) × (lastSort rs ≡ Logical)
+unfolding sortedOf
+sorted-told rs n e =
+    by-test (ltb (firstUnmet [] rs) (length rs))
+    (λ t. not-good (Operand (firstUnmet [] rs)) n (rw t at e))
+    (λ t. (omega (arith, ltb-false (firstUnmet [] rs) (length rs) t, unmet-most [] rs), solid-told (lastSort rs) (length rs) n (rw t at e)))
+
+-- ---- the whole sheet
+module _ (s : List ℕ) where
+  abbrev rs : List Record
+  rs = recordsOf s
+
+  check-parts : (n : ℕ) → checkOf s ≡ Good n → (lengthFails s ≡ false) × (getD s 2 0 ≡ 1) × (length s ≤ stopOf s) × (sortedOf rs ≡ Good n)
+  unfolding checkOf
+  check-parts n e =
+      by-test (lengthFails s)
+      (λ t. not-good Length n (rw t at e))
+      (λ t. by-test (eqb (getD s 2 0) 1)
+      (λ u. by-test (ltb (stopOf s) (length s))
+      (λ v. not-good (BadRecord (stopOf s)) n (rw (t, u, v) at e))
+      (λ v. (t, eqb-true _ _ u, ltb-false (stopOf s) (length s) v, rw (t, u, v) at e)))
+      (λ u. not-good Version n (rw (t, u) at e)))
+
+  pub check-good : (n : ℕ) → checkOf s ≡ Good n → GoodSheet s
+  check-good n e =
+      let t = check-parts n e in
+      let l = length-told s (t .0) in
+      let o = sorted-told rs n (t .3) in
+      record { long = l .0; agrees = l .1; version = t .1; framed = t .2; operands = none-unmet rs (o .0); solid = o .1 }
+
+  module _ (agrees : lengthFails s ≡ false) (version : getD s 2 0 ≡ 1) (framed : length s ≤ stopOf s) where
+    on-records : checkOf s ≡ sortedOf rs
+    unfolding checkOf
+    on-records = rw (agrees, version, le-ltb (stopOf s) (length s) framed)
+
+    met-records : firstUnmet [] rs ≡ length rs → checkOf s ≡ solidOf (lastSort rs) (length rs)
+    unfolding sortedOf
+    met-records e = on-records ∙ rw (e, le-ltb (length rs) (length rs) (omega arith))
+
+  pub good-check : GoodSheet s → checkOf s ≡ Good (length rs)
+  good-check g = met-records (length-good s (g .long) (g .agrees)) (g .version) (g .framed) (all-operands rs (g .operands)) ∙ rw (g .solid)
+
+  pub checks : DoneWhere (GoodSheet s) (zoneCheckOf s) (length rs)
+  unfolding zoneCheckOf
+  checks = record {
+    done = λ g. rw (good-check g);
+    only = λ e. let t = good-code (checkOf s) e in check-good (t .0) (t .1);
+  }
+
+  pub sheet-rows : SheetRows s
+  unfolding zoneCheckOf checkOf sortedOf
+  sheet-rows = record {
+    row-1 = λ fails. rw fails;
+    row-2 = λ agrees other. rw (agrees, ne-eqb _ _ other);
+    row-3 = λ agrees version bad. rw (agrees, version, lt-ltb _ _ bad);
+    row-4 = λ agrees version framed unmet. rw (on-records agrees version framed, lt-ltb _ _ unmet);
+    row-5 = λ agrees version framed met last. rw (met-records agrees version framed met, solid-refused (lastSort rs) (length rs) last);
+  }

@@ -1,0 +1,67 @@
+-- Document 01's table of replies, in order of test: the code and the number of each refusal, where its row is the first that refuses. Replies 1 to 5 are
+-- those of zone_check; the other calls give the same of a sheet that it refuses. Assumes nothing: these are statements.
+use mathlib.Core.Path.{_≡_}
+use mathlib.Core.Bool.{true, false}
+use mathlib.Core.List.{List, [], _∷_}
+use Prim.Native.Nat.{ℕ, _≤_, _<_}
+use lib.ListN.{length, getD}
+use Rattle.sheet.specs.declared.Sort.the-variants.{Logical}
+use Rattle.sheet.specs.Records.{recordsOf, stopOf}
+use Rattle.sheet.specs.Operands.{firstUnmet, lastSort}
+use Rattle.sheet.specs.Check.{lengthFails}
+use Rattle.kinds.specs.Faces.{hasFace}
+use Rattle.cube.specs.declared.Root.{Root}
+use Rattle.cube.specs.declared.Point.{Point}
+use Rattle.cube.specs.Limits.{WithinLimits}
+use Rattle.cube.specs.Cubes.{rootCube}
+use Rattle.cube.specs.Points.{InRoot}
+use Rattle.colour.specs.Entries.{pastOf}
+use Rattle.zonemap.specs.Opening.{rootOf, faultOf, anyFace}
+use Rattle.build.specs.Solid.{pastsOf}
+use Rattle.build.specs.Build.{builtMap}
+use Rattle.zone.specs.Replies.{reply, zoneCheckOf, zoneBuildOf, zoneOpenOf, zoneLookupOf}
+use Rattle.demands.specs.Terms.{GoodSheet, Opens, Bounded}
+
+-- of any sheet
+pub record SheetRows (sheet : List ℕ) : Type 0 where
+  -- under 3 bytes, or its length disagrees
+  pub row-1 : lengthFails sheet ≡ true → zoneCheckOf sheet ≡ reply 1 0
+  -- version not 1
+  pub row-2 : lengthFails sheet ≡ false → (getD sheet 2 0 ≡ 1 → ⊥) → zoneCheckOf sheet ≡ reply 2 0
+  -- a record runs over the end, has an unknown kind, a wrong count, or would be the 257th: its byte offset, the first such
+  pub row-3 : lengthFails sheet ≡ false → getD sheet 2 0 ≡ 1 → stopOf sheet < length sheet → zoneCheckOf sheet ≡ reply 3 (stopOf sheet)
+  -- an operand isn't an earlier record or is of the wrong sort: record number, the first such
+  pub row-4 : lengthFails sheet ≡ false → getD sheet 2 0 ≡ 1 → length sheet ≤ stopOf sheet → firstUnmet [] (recordsOf sheet) < length (recordsOf sheet)
+      → zoneCheckOf sheet ≡ reply 4 (firstUnmet [] (recordsOf sheet))
+  -- no records, or the last isn't logical: number of records
+  pub row-5 : lengthFails sheet ≡ false → getD sheet 2 0 ≡ 1 → length sheet ≤ stopOf sheet → firstUnmet [] (recordsOf sheet) ≡ length (recordsOf sheet)
+      → (lastSort (recordsOf sheet) ≡ Logical → ⊥) → zoneCheckOf sheet ≡ reply 5 (length (recordsOf sheet))
+
+-- of a good sheet, zone_build
+pub record BuildRows (sheet : List ℕ) (good : GoodSheet sheet) (root : Root) (before : List ℕ) : Type 0 where
+  -- root or depth out of limits
+  pub row-6 : (WithinLimits root → ⊥) → zoneBuildOf sheet root before .reply ≡ reply 6 0
+  -- a record's bounds over the root pass 2^60: the first such record
+  pub row-7 : WithinLimits root → (n : ℕ) → pastOf (recordsOf sheet) (rootCube root) ≡ n ∷ [] → zoneBuildOf sheet root before .reply ≡ reply 7 n
+  -- a record's bounds over a smaller cube pass 2^60: the first such record of the first such cube, a cube before its children
+  pub row-11 : WithinLimits root → Bounded (recordsOf sheet) (rootCube root) → (n : ℕ) (rest : List ℕ) → pastsOf (recordsOf sheet) (root .d) (rootCube root) ≡ n ∷ rest
+      → zoneBuildOf sheet root before .reply ≡ reply 11 n
+  -- lent buffer shorter than the map: bytes needed
+  pub row-8 : WithinLimits root → Bounded (recordsOf sheet) (rootCube root) → pastsOf (recordsOf sheet) (root .d) (rootCube root) ≡ []
+      → length before < length (builtMap (recordsOf sheet) root) → zoneBuildOf sheet root before .reply ≡ reply 8 (length (builtMap (recordsOf sheet) root))
+
+-- of a good sheet, zone_lookup
+pub record LookupRows (sheet : List ℕ) (good : GoodSheet sheet) (map : List ℕ) (p : Point) : Type 0 where
+  -- map doesn't open, or a terminal leaf names a record that isn't a face of the sheet: the offset of the first fault
+  pub row-9 : (at : ℕ) → faultOf (hasFace (recordsOf sheet)) map ≡ at ∷ [] → zoneLookupOf sheet map p ≡ reply 9 at
+  -- a record's bounds over the root pass 2^60: the first such record
+  pub row-7 : Opens (hasFace (recordsOf sheet)) map → (n : ℕ) → pastOf (recordsOf sheet) (rootCube (rootOf map)) ≡ n ∷ [] → zoneLookupOf sheet map p ≡ reply 7 n
+  -- point not in the root, high planes left out
+  pub row-10 : Opens (hasFace (recordsOf sheet)) map → Bounded (recordsOf sheet) (rootCube (rootOf map)) → (InRoot (rootOf map) p → ⊥) → zoneLookupOf sheet map p ≡ reply 10 0
+
+pub record Table : Type 0 where
+  pub sheets : (sheet : List ℕ) → SheetRows sheet
+  pub builds : (sheet : List ℕ) (good : GoodSheet sheet) (root : Root) (before : List ℕ) → BuildRows sheet good root before
+  -- zone_open, without the sheet clause
+  pub opens : (map : List ℕ) (at : ℕ) → faultOf anyFace map ≡ at ∷ [] → zoneOpenOf map ≡ reply 9 at
+  pub lookups : (sheet : List ℕ) (good : GoodSheet sheet) (map : List ℕ) (p : Point) → LookupRows sheet good map p

@@ -4,10 +4,14 @@
    only to be read lies in pages that nobody may write. A byte read or written outside a slice, or a sheet or a map that is written to,
    stops the server. Numbers of requests and replies are little-endian, as on the machines it is built for.
 
+   check:  'c', placing, sheet
+           -> code (32 bits), number (64 bits), whether the sheet is as it was (a byte)
    build:  'b', placing, sheet, x y z (32 bits), k d (a byte), length of out (32 bits), seed of the bytes of out (64 bits)
-           -> code (32 bits), number (64 bits), whether the sheet is as it was (a byte), every byte of out
+           -> code, number, whether the sheet is as it was, every byte of out
+   open:   'o', placing, map
+           -> code, number, whether the map is as it was
    lookup: 'l', placing, sheet, map, how many points (32 bits), x y z of each
-           -> code and number for each, whether sheet and map are as they were (a byte)
+           -> code and number for each, whether sheet and map are as they were
    trespass: 't', which (a byte): does what a wrong library might do, so that a test can see that it stops the server
 
    A sheet or a map is its length (32 bits) and its bytes. */
@@ -151,6 +155,16 @@ static void put_reply(ZoneReply reply) {
     put(&reply.number, sizeof reply.number);
 }
 
+/* A call that takes one slice, which is placed by this bit of the placing. */
+static void test(Room *room, uint8_t *copy, int first, ZoneReply (*call)(const uint8_t *, size_t)) {
+    int placing = get_byte();
+    lend(room, copy, placing & first, placing & NULL_IF_EMPTY);
+    ZoneReply reply = call(room->slice, room->length);
+    uint8_t same = take_back(room, copy);
+    put_reply(reply);
+    put(&same, 1);
+}
+
 static void build(void) {
     int placing = get_byte();
     lend(&sheet_room, sheet_read, placing & SHEET_FIRST, placing & NULL_IF_EMPTY);
@@ -208,8 +222,12 @@ int main(void) {
     make_room(&out_room);
     while (get(&call, 1)) {
         alarm(MOST_SECONDS);
-        if (call == 'b')
+        if (call == 'c')
+            test(&sheet_room, sheet_read, SHEET_FIRST, zone_check);
+        else if (call == 'b')
             build();
+        else if (call == 'o')
+            test(&map_room, map_read, SECOND_FIRST, zone_open);
         else if (call == 'l')
             lookup();
         else if (call == 't')

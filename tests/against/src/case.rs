@@ -7,6 +7,24 @@ use paper::Reply;
 /// last, the same of out or the map, and whether a slice without bytes is null.
 pub const PLACINGS: usize = 8;
 
+/// The library's calls, in the header's order.
+#[derive(Clone, Copy, Debug, PartialEq, Eq)]
+pub enum Call {
+    Check,
+    Build,
+    Open,
+    Lookup,
+}
+
+pub const CALLS: [Call; 4] = [Call::Check, Call::Build, Call::Open, Call::Lookup];
+
+/// A slice that is lent by itself: the sheet of a check, or the map of an opening.
+#[derive(Clone, Debug, PartialEq, Eq)]
+pub struct Lent {
+    pub placing: u8,
+    pub bytes: Vec<u8>,
+}
+
 #[derive(Clone, Debug, PartialEq, Eq)]
 pub struct Build {
     pub placing: u8,
@@ -26,12 +44,14 @@ pub struct Lookup {
 
 #[derive(Clone, Debug, PartialEq, Eq)]
 pub enum Case {
+    Check(Lent),
     Build(Build),
+    Open(Lent),
     Lookup(Lookup),
 }
 
-/// What a call gave: a reply for a build or for each point, every byte of out, and whether what is
-/// only read is as it was.
+/// What a call gave: one reply, or one for each point of a lookup, every byte of out, and whether
+/// what is only read is as it was.
 #[derive(Clone, Debug, PartialEq, Eq)]
 pub struct Outcome {
     pub replies: Vec<Reply>,
@@ -53,28 +73,71 @@ impl Build {
     }
 }
 
+impl Call {
+    /// What several of it are called.
+    pub fn name(self) -> &'static str {
+        ["checks", "builds", "opens", "lookups"][self as usize]
+    }
+}
+
 impl Case {
+    pub fn call(&self) -> Call {
+        match self {
+            Case::Check(_) => Call::Check,
+            Case::Build(_) => Call::Build,
+            Case::Open(_) => Call::Open,
+            Case::Lookup(_) => Call::Lookup,
+        }
+    }
+
     /// How many calls of the library it is.
     pub fn calls(&self) -> usize {
         match self {
-            Case::Build(_) => 1,
             Case::Lookup(lookup) => lookup.points.len(),
+            _ => 1,
+        }
+    }
+
+    pub fn placing(&self) -> u8 {
+        match self {
+            Case::Check(lent) | Case::Open(lent) => lent.placing,
+            Case::Build(build) => build.placing,
+            Case::Lookup(lookup) => lookup.placing,
+        }
+    }
+
+    /// The sheet, if the call takes one.
+    pub fn sheet(&self) -> Option<&[u8]> {
+        match self {
+            Case::Check(lent) => Some(&lent.bytes),
+            Case::Build(build) => Some(&build.sheet),
+            Case::Open(_) => None,
+            Case::Lookup(lookup) => Some(&lookup.sheet),
+        }
+    }
+
+    /// The map, if the call takes one.
+    pub fn map(&self) -> Option<&[u8]> {
+        match self {
+            Case::Check(_) | Case::Build(_) => None,
+            Case::Open(lent) => Some(&lent.bytes),
+            Case::Lookup(lookup) => Some(&lookup.map),
         }
     }
 
     pub fn out_len(&self) -> usize {
         match self {
             Case::Build(build) => build.out_len,
-            Case::Lookup(_) => 0,
+            _ => 0,
         }
     }
 
     /// The request, as tests/serve/serve.c reads it.
     pub fn request(&self) -> Vec<u8> {
-        let mut bytes = Vec::new();
+        let mut bytes = vec![letter(self.call()), self.placing()];
         match self {
+            Case::Check(lent) | Case::Open(lent) => add_slice(&mut bytes, &lent.bytes),
             Case::Build(build) => {
-                bytes.extend([b'b', build.placing]);
                 add_slice(&mut bytes, &build.sheet);
                 add_point(&mut bytes, build.root.low);
                 bytes.extend([build.root.k, build.root.d]);
@@ -82,7 +145,6 @@ impl Case {
                 bytes.extend(build.out_seed.to_le_bytes());
             }
             Case::Lookup(lookup) => {
-                bytes.extend([b'l', lookup.placing]);
                 add_slice(&mut bytes, &lookup.sheet);
                 add_slice(&mut bytes, &lookup.map);
                 bytes.extend((lookup.points.len() as u32).to_le_bytes());
@@ -96,10 +158,15 @@ impl Case {
 
     /// The case of a request, if it is one.
     pub fn of_request(bytes: &[u8]) -> Option<Case> {
-        let mut rest = bytes;
-        let case = match take(&mut rest)? {
-            [b'b'] => Case::Build(Build {
-                placing: u8::from_le_bytes(take(&mut rest)?),
+        let (&[first, placing], mut rest) = bytes.split_first_chunk()?;
+        let call = CALLS.into_iter().find(|&call| letter(call) == first)?;
+        let case = match call {
+            Call::Check => Case::Check(Lent {
+                placing,
+                bytes: take_slice(&mut rest)?,
+            }),
+            Call::Build => Case::Build(Build {
+                placing,
                 sheet: take_slice(&mut rest)?,
                 root: Root {
                     low: take_point(&mut rest)?,
@@ -109,15 +176,28 @@ impl Case {
                 out_len: u32::from_le_bytes(take(&mut rest)?) as usize,
                 out_seed: u64::from_le_bytes(take(&mut rest)?),
             }),
-            [b'l'] => Case::Lookup(Lookup {
-                placing: u8::from_le_bytes(take(&mut rest)?),
+            Call::Open => Case::Open(Lent {
+                placing,
+                bytes: take_slice(&mut rest)?,
+            }),
+            Call::Lookup => Case::Lookup(Lookup {
+                placing,
                 sheet: take_slice(&mut rest)?,
                 map: take_slice(&mut rest)?,
                 points: take_points(&mut rest)?,
             }),
-            _ => return None,
         };
         rest.is_empty().then_some(case)
+    }
+}
+
+/// The first byte of a request, as tests/serve/serve.c reads it.
+fn letter(call: Call) -> u8 {
+    match call {
+        Call::Check => b'c',
+        Call::Build => b'b',
+        Call::Open => b'o',
+        Call::Lookup => b'l',
     }
 }
 
@@ -189,7 +269,10 @@ mod tests {
             map: vec![9; 300],
             points: vec![[1, -2, 3], [i32::MAX, 0, -1]],
         });
-        for case in [build, lookup] {
+        let lent = |placing, bytes| Lent { placing, bytes };
+        let check = Case::Check(lent(5, vec![0, 1]));
+        let open = Case::Open(lent(2, vec![7; 22]));
+        for case in [check, build, open, lookup] {
             let text = hex(&case.request());
             assert_eq!(Case::of_request(&of_hex(&text).unwrap()), Some(case));
         }

@@ -1,25 +1,34 @@
 //! The checks of a run, each of which counts as one.
 
+use crate::alone;
 use crate::builds;
-use crate::case::Case;
+use crate::case::{Call, Case, CALLS};
 use crate::demand3_run::{self, Found};
 use crate::every_byte;
 use crate::group::{report, Group, Setup};
 use crate::lookups::{self, POINTS};
+use crate::relations;
 use crate::server::{Server, TRESPASSES};
 use crate::slips::slips;
 use crate::tally::Tally;
 use std::time::Instant;
 
-/// How many random builds and lookups.
+/// How many random calls of each sort.
 pub struct Sizes {
+    pub checks: u64,
     pub builds: u64,
+    pub opens: u64,
     pub lookups: u64,
 }
 
 impl Sizes {
     /// Damaged sheets, and as many maps, beside those of each byte.
     fn damaged(&self) -> u64 {
+        self.builds / 5
+    }
+
+    /// Builds and lookups held to what relates the calls.
+    fn related(&self) -> u64 {
         self.builds / 5
     }
 
@@ -34,12 +43,22 @@ impl Sizes {
     }
 }
 
-fn groups(sizes: &Sizes) -> [Group; 4] {
+fn groups(sizes: &Sizes) -> [Group; 6] {
     [
+        Group {
+            name: "checks",
+            make: alone::check,
+            cases: sizes.checks,
+        },
         Group {
             name: "builds",
             make: builds::any,
             cases: sizes.builds,
+        },
+        Group {
+            name: "opens",
+            make: alone::open,
+            cases: sizes.opens,
         },
         Group {
             name: "lookups",
@@ -71,10 +90,11 @@ struct Run<'a> {
 
 type Check = fn(&mut Run) -> Result<(), String>;
 
-const CHECKS: [(&str, Check); 6] = [
+const CHECKS: [(&str, Check); 7] = [
     ("guard pages", guard_pages),
     ("comparison", comparison),
     ("codes reached", codes_reached),
+    ("relations", relations),
     ("wrong rules", wrong_rules),
     ("demand 3", demand_3),
     ("wrong maps", wrong_maps),
@@ -143,10 +163,7 @@ fn comparison(run: &mut Run) -> Result<(), String> {
         } else {
             "a difference"
         };
-        let what = format!(
-            "{}: {} builds, {} lookups, {found}",
-            group.name, tally.builds, tally.lookups
-        );
+        let what = format!("{}: {}, {found}", group.name, tally.calls());
         run.count(&what, good);
         run.covered.add(&tally);
     }
@@ -155,20 +172,36 @@ fn comparison(run: &mut Run) -> Result<(), String> {
     Ok(())
 }
 
-/// Builds reach 0 to 8, lookups 0 to 5, 7, 9 and 10. No input reaches 11: bounds over a cube hold the
-/// bounds over each cube in it, so a record that passes 2^60 over a smaller cube passes it over the root.
+/// Each call gives all codes that it can, and reply 9 finds fault wherever it can. No input reaches 11:
+/// bounds over a cube hold the bounds over each cube in it, so a record that passes 2^60 over a smaller cube
+/// passes it over the root.
 fn codes_reached(run: &mut Run) -> Result<(), String> {
     let covered = &run.covered;
-    let reached = |counts: &[u64]| -> Vec<usize> {
-        let codes = counts.iter().enumerate();
-        codes
-            .filter(|(_, &count)| count > 0)
-            .map(|(code, _)| code)
-            .collect()
-    };
-    let good = reached(&covered.build_codes) == [0, 1, 2, 3, 4, 5, 6, 7, 8]
-        && reached(&covered.lookup_codes) == [0, 1, 2, 3, 4, 5, 7, 9, 10];
-    run.count("codes reached: every one of 0 to 10, never 11", good);
+    let codes = CALLS.map(|call| covered.reached(call));
+    let all: [&[usize]; CALLS.len()] = [
+        &[0, 1, 2, 3, 4, 5],
+        &[0, 1, 2, 3, 4, 5, 6, 7, 8],
+        &[0, 9],
+        &[0, 1, 2, 3, 4, 5, 7, 9, 10],
+    ];
+    let offsets = [Call::Open, Call::Lookup].map(|call| covered.reached_all_offsets(call));
+    let what = "codes reached: every one of 0 to 10, never 11, and 9 for each sort of offset";
+    run.count(what, codes == all && offsets == [true; 2]);
+    Ok(())
+}
+
+/// The library's answers to different calls fit together.
+fn relations(run: &mut Run) -> Result<(), String> {
+    let held = relations::run(run.setup, run.sizes.related())?;
+    if let Some(told) = &held.broken {
+        println!("BROKEN: {told}");
+    }
+    let counts = [held.sheets_refused, held.maps_refused, held.maps_built];
+    let [sheets, maps, built] = counts;
+    let what = format!(
+        "relations: {sheets} refused sheets, {maps} refused maps and {built} built maps, the calls agree"
+    );
+    run.count(&what, held.broken.is_none() && !counts.contains(&0));
     Ok(())
 }
 

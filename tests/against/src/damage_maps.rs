@@ -1,13 +1,14 @@
 //! Maps that are damaged, byte by byte and field by field.
 
 use crate::random::Random;
+use paper::colour::GRAY;
 use paper::map::{HEADER, LEAF};
 
 /// A map, good or not.
 type Bytes = Vec<u8>;
 type Damage = fn(&mut Bytes, &mut Random);
 
-const DAMAGES: [(&str, Damage); 20] = [
+const DAMAGES: [(&str, Damage); 21] = [
     ("map: length", length),
     ("map: version", version),
     ("map: corner", corner),
@@ -15,6 +16,7 @@ const DAMAGES: [(&str, Damage); 20] = [
     ("map: d", d),
     ("map: level", level),
     ("map: class", class),
+    ("map: gray leaf", gray),
     ("map: face", face),
     ("map: leaf removed", removed),
     ("map: leaf twice", twice),
@@ -98,6 +100,11 @@ fn level(map: &mut Bytes, random: &mut Random) {
 fn class(map: &mut Bytes, random: &mut Random) {
     let at = leaf(map, random) + 1;
     map[at] = random.between(0, 5) as u8;
+}
+
+fn gray(map: &mut Bytes, random: &mut Random) {
+    let at = leaf(map, random);
+    map[at + 1..at + LEAF].copy_from_slice(&[GRAY, 0]);
 }
 
 fn face(map: &mut Bytes, random: &mut Random) {

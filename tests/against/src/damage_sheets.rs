@@ -22,7 +22,7 @@ enum Length {
 
 type Damage = fn(&mut Parts, &mut Random);
 
-const DAMAGES: [(&str, Damage); 20] = [
+const DAMAGES: [(&str, Damage); 21] = [
     ("sheet: length", length),
     ("sheet: version", version),
     ("sheet: kind", kind),
@@ -43,6 +43,7 @@ const DAMAGES: [(&str, Damage); 20] = [
     ("sheet: no records", no_records),
     ("sheet: under 3 bytes", under_3),
     ("sheet: random records", random_records),
+    ("sheet: as long as two bytes can tell", longest),
 ];
 
 /// Damages a good sheet in one field, in two, or in one byte.
@@ -257,4 +258,11 @@ fn random_records(parts: &mut Parts, random: &mut Random) {
         }
         parts.records.push(record);
     }
+}
+
+/// Just as long as its first two bytes can tell, or a byte longer, so that what they tell begins again at 0.
+fn longest(parts: &mut Parts, random: &mut Random) {
+    let longest = usize::from(u16::MAX) + random.below(2);
+    let missing = longest.saturating_sub(parts.body().len());
+    parts.after.extend([1, 2].into_iter().cycle().take(missing));
 }

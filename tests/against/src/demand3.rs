@@ -80,7 +80,7 @@ pub fn built(plan: &Plan, leaves: usize, server: &mut Server) -> Result<Option<B
     if outcome.replies[0].code != 0 {
         return Ok(None);
     }
-    let opened = map::open(&outcome.out, &plan.sheet()).map_err(|refusal| {
+    let opened = map::read_for(&outcome.out, &plan.sheet()).map_err(|refusal| {
         let request = hex(&case.request());
         format!("a map that was built does not open: {refusal:?}; replay {request}")
     })?;

@@ -2,7 +2,7 @@
 
 use crate::case::hex;
 use crate::demand3::{self, built, points_of, touching, wrong_leaf, Built, Counts};
-use crate::group::{on_two_threads, Setup};
+use crate::group::{on_two_servers, Setup};
 use crate::plan::Plan;
 use crate::random::Random;
 use crate::server::Server;
@@ -13,7 +13,6 @@ use paper::fractions::Point;
 use paper::map::{self, Leaf};
 use paper::root::{Cube, Root};
 use paper::sheet::{Record::*, Sheet};
-use std::sync::atomic::{AtomicU64, Ordering};
 
 /// How many leaves of a map points are taken of.
 const LEAVES_TRIED: usize = 8;
@@ -41,28 +40,15 @@ pub struct Found {
 
 /// Holds so many sheets, each with two maps, to the demand, on two servers.
 pub fn run(setup: &Setup, sheets: u64) -> Result<Found, String> {
-    let next = AtomicU64::new(0);
-    let mut all = Found::default();
-    for part in on_two_threads(|| part(setup, &next, sheets)) {
-        let part = part?;
-        all.counts.add(&part.counts);
-        all.point = all.point.or(part.point);
-        all.touch = all.touch.or(part.touch);
-    }
-    Ok(all)
-}
-
-fn part(setup: &Setup, next: &AtomicU64, sheets: u64) -> Result<Found, String> {
-    let mut server = Server::named(&setup.library)?;
-    let mut found = Found::default();
-    loop {
-        let number = next.fetch_add(1, Ordering::Relaxed);
-        if number >= sheets {
-            return Ok(found);
-        }
+    let hold = |number, server: &mut Server, found: &mut Found| {
         let mut random = Random::of_case(setup.seed, "demand 3", number);
-        one_sheet(&mut random, &mut server, &mut found)?;
-    }
+        one_sheet(&mut random, server, found).map(|()| true)
+    };
+    let [mut all, other] = on_two_servers(setup, sheets, hold)?;
+    all.counts.add(&other.counts);
+    all.point = all.point.or(other.point);
+    all.touch = all.touch.or(other.touch);
+    Ok(all)
 }
 
 /// Holds the two maps of one sheet to the demand.
@@ -154,7 +140,7 @@ pub fn turned_over(setup: &Setup, sheets: u64) -> Result<(u64, u64), String> {
 fn wrong_map(colouring: &Colouring, sheet: &Sheet, d: u8) -> Result<Vec<(Cube, Leaf)>, String> {
     let low = [0, 0, 0];
     let opened = map_by(colouring, sheet, &Root { low, k: 2, d })
-        .and_then(|bytes| map::open(&bytes, sheet))
+        .and_then(|bytes| map::read_for(&bytes, sheet))
         .map_err(|refusal| format!("{refusal:?}"))?;
     Ok(opened.cubes().collect())
 }

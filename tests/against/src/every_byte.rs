@@ -1,5 +1,6 @@
 //! Each byte of some sheets and some maps, changed to other values, and each point about these maps.
 
+use crate::alone;
 use crate::builds::Made;
 use crate::case::{Build, Case, Lookup, PLACINGS};
 use crate::lookups;
@@ -55,19 +56,46 @@ fn small() -> [Small; 3] {
     ]
 }
 
-/// How many cases `sheets` has: each changed sheet is built and looked up by.
+/// How many calls take a sheet, and how many a map: each changed one is given to all of them.
+const OF_SHEETS: u64 = 3;
+const OF_MAPS: u64 = 2;
+
+/// How many cases `sheets` has for each byte.
 pub fn sheet_cases() -> u64 {
-    let cases = |small: &Small| 2 * small.sheet.len() as u64 * small.values;
-    small().iter().map(cases).sum()
+    small().iter().map(Small::sheet_cases).sum()
 }
 
-/// How many cases `maps` has.
+/// How many cases `maps` has for each byte.
 pub fn map_cases() -> u64 {
-    let cases = |small: &Small| small.map().len() as u64 * small.values;
-    small().iter().map(cases).sum()
+    small().iter().map(Small::map_cases).sum()
 }
 
 impl Small {
+    fn sheet_cases(&self) -> u64 {
+        OF_SHEETS * self.sheet.len() as u64 * self.values
+    }
+
+    fn map_cases(&self) -> u64 {
+        OF_MAPS * self.map().len() as u64 * self.values
+    }
+
+    /// The call of a number that takes a sheet.
+    fn by_sheet(&self, call: u64, sheet: Vec<u8>, map: Vec<u8>, random: &mut Random) -> Case {
+        match call % OF_SHEETS {
+            0 => self.build(sheet, random),
+            1 => self.lookup(sheet, map, random),
+            _ => alone::checked(sheet, random),
+        }
+    }
+
+    /// The call of a number that takes a map.
+    fn by_map(&self, call: u64, map: Vec<u8>, random: &mut Random) -> Case {
+        match call % OF_MAPS {
+            0 => self.lookup(self.sheet.clone(), map, random),
+            _ => alone::opened(map, random),
+        }
+    }
+
     fn map(&self) -> Vec<u8> {
         map_of(&self.sheet, &self.root).expect("it is built")
     }
@@ -134,17 +162,13 @@ fn changed(bytes: &[u8], number: u64, small: &Small, random: &mut Random) -> Vec
 /// Each byte of each small sheet in turn.
 pub fn sheets(mut number: u64, random: &mut Random) -> Made {
     for small in small() {
-        let cases = 2 * small.sheet.len() as u64 * small.values;
-        if number < cases {
-            let sheet = changed(&small.sheet, number / 2, &small, random);
-            let case = match number % 2 {
-                0 => small.build(sheet, random),
-                _ => small.lookup(sheet, small.map(), random),
-            };
+        if number < small.sheet_cases() {
+            let sheet = changed(&small.sheet, number / OF_SHEETS, &small, random);
             let labels = vec!["each byte of a sheet"];
+            let case = small.by_sheet(number, sheet, small.map(), random);
             return Made { labels, case };
         }
-        number -= cases;
+        number -= small.sheet_cases();
     }
     damaged_sheet(number, random)
 }
@@ -152,21 +176,19 @@ pub fn sheets(mut number: u64, random: &mut Random) -> Made {
 /// Each byte of each small map in turn.
 pub fn maps(mut number: u64, random: &mut Random) -> Made {
     for small in small() {
-        let map = small.map();
-        let cases = map.len() as u64 * small.values;
-        if number < cases {
-            let map = changed(&map, number, &small, random);
-            let case = small.lookup(small.sheet.clone(), map, random);
+        if number < small.map_cases() {
+            let map = changed(&small.map(), number / OF_MAPS, &small, random);
             let labels = vec!["each byte of a map"];
+            let case = small.by_map(number, map, random);
             return Made { labels, case };
         }
-        number -= cases;
+        number -= small.map_cases();
     }
-    damaged_map(random)
+    damaged_map(number, random)
 }
 
-/// After the bytes the fields, of any sheet: built and looked up by.
-pub fn damaged_sheet(_: u64, random: &mut Random) -> Made {
+/// After the bytes the fields, of any sheet.
+pub fn damaged_sheet(number: u64, random: &mut Random) -> Made {
     let (plan, map) = lookups::planned(random);
     let (label, sheet) = damage_sheets::damaged(&plan.records, random);
     let one = Small {
@@ -174,16 +196,14 @@ pub fn damaged_sheet(_: u64, random: &mut Random) -> Made {
         root: plan::shallow(&sheet, &plan.root, 250),
         values: 1,
     };
-    let case = match random.below(2) {
-        0 => one.build(sheet, random),
-        _ => one.lookup(sheet, map, random),
-    };
-    let labels = vec![label];
-    Made { labels, case }
+    Made {
+        labels: vec![label],
+        case: one.by_sheet(number, sheet, map, random),
+    }
 }
 
 /// The fields of any map.
-fn damaged_map(random: &mut Random) -> Made {
+pub fn damaged_map(number: u64, random: &mut Random) -> Made {
     let (plan, map) = lookups::planned(random);
     let (label, map) = damage_maps::damaged(&map, random);
     let one = Small {
@@ -191,7 +211,8 @@ fn damaged_map(random: &mut Random) -> Made {
         root: plan.root,
         values: 1,
     };
-    let case = one.lookup(plan.bytes(), map, random);
-    let labels = vec![label];
-    Made { labels, case }
+    Made {
+        labels: vec![label],
+        case: one.by_map(number, map, random),
+    }
 }

@@ -1,7 +1,7 @@
 //! What document 01 says comes of a case.
 
 use crate::case::{Build, Case, Lookup, Outcome};
-use paper::{build, lookup, Refusal, Reply};
+use paper::{build, lookup, map, sheet, Refusal, Reply};
 
 /// What says what must come of a case. There is one by the paper, and one for each wrong rule.
 pub type Oracle = dyn Fn(&Case) -> Outcome + Sync;
@@ -9,11 +9,22 @@ pub type Oracle = dyn Fn(&Case) -> Outcome + Sync;
 /// By the paper.
 pub fn by_paper(case: &Case) -> Outcome {
     match case {
+        Case::Check(lent) => of_reply(sheet::check(&lent.bytes)),
+        Case::Open(lent) => of_reply(map::open(&lent.bytes)),
         Case::Build(asked) => of_map(asked, build::map_of(&asked.sheet, &asked.root)),
         Case::Lookup(asked) => match lookup::open(&asked.sheet, &asked.map) {
             Ok(opened) => of_answers(asked, &|point| opened.answer(point)),
             Err(refusal) => of_answers(asked, &|_| refusal),
         },
+    }
+}
+
+/// What comes of a call with one reply and no buffer.
+pub fn of_reply(reply: Reply) -> Outcome {
+    Outcome {
+        replies: vec![reply],
+        out: vec![],
+        inputs_same: true,
     }
 }
 
@@ -25,9 +36,8 @@ pub fn of_map(asked: &Build, map: Result<Vec<u8>, Refusal>) -> Outcome {
         Err(refusal) => refusal,
     };
     Outcome {
-        replies: vec![reply],
         out,
-        inputs_same: true,
+        ..of_reply(reply)
     }
 }
 

@@ -29,14 +29,33 @@ pub struct Setup {
 const COMMAND: &str = "cargo run --release --offline --manifest-path tests/against/Cargo.toml \
                        --target-dir target/cargo --";
 
-/// Does the same on two threads at once: as many as the smallest machine has cores for.
-pub fn on_two_threads<T: Send>(
-    work: impl Fn() -> Result<T, String> + Sync,
-) -> [Result<T, String>; 2] {
-    std::thread::scope(|scope| {
-        let threads = [scope.spawn(&work), scope.spawn(&work)];
+/// Does some work for each number below a count, on two threads, as many as the smallest machine has cores
+/// for, each with a server and a result of its own. The work answers whether to go on.
+pub fn on_two_servers<T: Default + Send>(
+    setup: &Setup,
+    count: u64,
+    work: impl Fn(u64, &mut Server, &mut T) -> Result<bool, String> + Sync,
+) -> Result<[T; 2], String> {
+    let next = AtomicU64::new(0);
+    let part = || -> Result<T, String> {
+        let mut server = Server::named(&setup.library)?;
+        let mut result = T::default();
+        loop {
+            let number = next.fetch_add(1, Ordering::Relaxed);
+            if number >= count {
+                return Ok(result);
+            }
+            if !work(number, &mut server, &mut result)? {
+                next.store(count, Ordering::Relaxed);
+            }
+        }
+    };
+    let results = std::thread::scope(|scope| {
+        let threads = [scope.spawn(part), scope.spawn(part)];
         threads.map(|thread| thread.join().unwrap_or(Err("a thread failed".into())))
-    })
+    });
+    let [first, second] = results;
+    Ok([first?, second?])
 }
 
 /// A case that the library answers otherwise than the oracle says.
@@ -79,41 +98,22 @@ impl Group {
         setup: &Setup,
         oracle: &Oracle,
     ) -> Result<(Tally, Option<Difference>), String> {
-        let next = AtomicU64::new(0);
-        let mut all = Tally::default();
-        let mut differences = Vec::new();
-        for part in on_two_threads(|| self.part(setup, oracle, &next)) {
-            let (tally, difference) = part?;
-            all.add(&tally);
-            differences.extend(difference);
-        }
-        let first = differences.into_iter().min_by_key(|found| found.number);
-        Ok((all, first))
-    }
-
-    /// The next case whenever one is done, on a server of its own, until there is none or a difference.
-    fn part(
-        &self,
-        setup: &Setup,
-        oracle: &Oracle,
-        next: &AtomicU64,
-    ) -> Result<(Tally, Option<Difference>), String> {
-        let mut server = Server::named(&setup.library)?;
-        let mut tally = Tally::default();
-        loop {
-            let number = next.fetch_add(1, Ordering::Relaxed);
-            if number >= self.cases {
-                return Ok((tally, None));
-            }
+        type Part = (Tally, Option<Difference>);
+        let ask = |number, server: &mut Server, (tally, difference): &mut Part| {
             let made = self.case(setup.seed, number);
             let expected = oracle(&made.case);
             tally.count(&made, &expected);
-            if server.ask(&made.case) != Ok(expected) {
-                next.store(self.cases, Ordering::Relaxed);
-                let case = made.case;
-                return Ok((tally, Some(Difference { number, case })));
+            if server.ask(&made.case) == Ok(expected) {
+                return Ok(true);
             }
-        }
+            let case = made.case;
+            *difference = Some(Difference { number, case });
+            Ok(false)
+        };
+        let [(mut all, first), (other, second)] = on_two_servers(setup, self.cases, ask)?;
+        all.add(&other);
+        let differences = [first, second].into_iter().flatten();
+        Ok((all, differences.min_by_key(|found| found.number)))
     }
 }
 

@@ -1,9 +1,11 @@
 //! Compares the proved library with document 01 in plain Rust, and holds its maps to demand 3.
 //!
-//! usage: against [builds N] [lookups N] [seed S] [library shipped|native]    all checks
-//!        against replay HEX [library ..]                                    one case that was printed
-//!        against case GROUP NUMBER [seed S] [library ..]                    one case of a group
+//! usage: against [SORT N].. [seed S] [library shipped|native]    all checks, with so many calls of a SORT:
+//!                                                                 checks, builds, opens or lookups
+//!        against replay HEX [library ..]                          one case that was printed
+//!        against case GROUP NUMBER [seed S] [library ..]          one case of a group
 
+mod alone;
 mod builds;
 mod case;
 mod checks;
@@ -22,6 +24,7 @@ mod maker;
 mod maps;
 mod plan;
 mod random;
+mod relations;
 mod rooms;
 mod server;
 mod shrink;
@@ -29,6 +32,7 @@ mod slips;
 mod tally;
 mod wrong_builds;
 mod wrong_lookups;
+mod wrong_reads;
 
 use checks::Sizes;
 use group::Setup;
@@ -41,13 +45,17 @@ fn settings(words: &[&str]) -> Result<(Setup, Sizes), String> {
         library: "shipped".into(),
     };
     let mut sizes = Sizes {
+        checks: 20_000,
         builds: 20_000,
+        opens: 20_000,
         lookups: 20_000,
     };
     let number = |text: &str| text.parse().map_err(|_| format!("{text}: no number"));
     for two in words.chunks(2) {
         match *two {
+            ["checks", count] => sizes.checks = number(count)?,
             ["builds", count] => sizes.builds = number(count)?,
+            ["opens", count] => sizes.opens = number(count)?,
             ["lookups", count] => sizes.lookups = number(count)?,
             ["seed", seed] => setup.seed = number(seed)?,
             ["library", name] => setup.library = name.into(),

@@ -5,23 +5,23 @@ use crate::random::Random;
 use paper::colour::{Colour, BLACK, GRAY, TERMINAL, TERMINAL_COMPLEMENT, WHITE};
 use paper::map::{self, Leaf};
 use paper::root::{Cube, Root};
-use paper::sheet::{Record, Sheet};
+use paper::sheet::Sheet;
 
-/// A map of random leaves over a random root. The leaves are good, and terminal ones name faces of the
-/// sheet, but for one map in eight.
+/// A map of random leaves. Terminal ones name faces of the sheet, but for one map in eight.
 pub fn unbuilt(sheet: &Sheet, random: &mut Random) -> Vec<u8> {
+    let may_be_any = random.once_in(8);
+    let may_name = |&number: &u8| may_be_any || sheet.is_face(number.into());
+    let faces: Vec<u8> = (0..=255).filter(may_name).collect();
+    naming(&faces, random)
+}
+
+/// A map of random leaves over a random root. The leaves are good, and terminal ones name these faces.
+pub fn naming(faces: &[u8], random: &mut Random) -> Vec<u8> {
     let k = random.between(0, 16) as u8;
     let mut root = plan::root(random, k);
     root.d = random.between(0, i64::from(k.min(10))) as u8;
-    let faces: Vec<u8> = if random.once_in(8) {
-        (0..=255).collect()
-    } else {
-        let numbers = 0..sheet.records.len();
-        let is_face = |&n: &usize| matches!(sheet.records[n], Record::Face(_));
-        numbers.filter(is_face).map(|n| n as u8).collect()
-    };
     let mut leaves = Vec::new();
-    add_random(&mut leaves, random, &faces, root.d, 0);
+    add_random(&mut leaves, random, faces, root.d, 0);
     map::write(&root, &leaves)
 }
 

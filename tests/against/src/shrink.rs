@@ -1,6 +1,6 @@
 //! Makes a case that shows a difference smaller, as long as it still shows one.
 
-use crate::case::{Build, Case, Lookup};
+use crate::case::{Build, Case, Lent, Lookup};
 use crate::damage_maps::tell_length;
 use crate::expect::by_paper;
 use crate::plan;
@@ -45,6 +45,14 @@ type Tries<'a, T> = Box<dyn Iterator<Item = T> + 'a>;
 /// Cases that are a little simpler, the greatest steps first.
 fn smaller(case: &Case) -> Tries<'_, Case> {
     match case {
+        Case::Check(lent) => {
+            let sheets = smaller_sheets(&lent.bytes);
+            Box::new(smaller_lent(lent, sheets).map(Case::Check))
+        }
+        Case::Open(lent) => {
+            let maps = smaller_maps(&lent.bytes);
+            Box::new(smaller_lent(lent, maps).map(Case::Open))
+        }
         Case::Build(build) => Box::new(smaller_builds(build).map(Case::Build)),
         Case::Lookup(lookup) => Box::new(smaller_lookups(lookup).map(Case::Lookup)),
     }
@@ -55,6 +63,15 @@ fn with<T: Clone>(one: &T, change: impl FnOnce(&mut T)) -> T {
     let mut other = one.clone();
     change(&mut other);
     other
+}
+
+fn smaller_lent<'a>(
+    lent: &'a Lent,
+    all: impl Iterator<Item = Vec<u8>> + 'a,
+) -> impl Iterator<Item = Lent> + 'a {
+    all.map(|bytes| with(lent, |other| other.bytes = bytes))
+        .chain([with(lent, |other| other.placing = 0)])
+        .filter(move |other| other != lent)
 }
 
 fn smaller_builds(build: &Build) -> impl Iterator<Item = Build> + '_ {
@@ -224,7 +241,7 @@ mod tests {
             Case::Build(build) => {
                 sheet::read(&build.sheet).is_ok_and(|sheet| sheet.records.iter().any(is_square))
             }
-            Case::Lookup(_) => false,
+            _ => false,
         };
         let mut random = Random::of_case(1, "shrink", 0);
         let made = std::iter::repeat_with(|| builds::any(1, &mut random).case);

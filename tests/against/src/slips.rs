@@ -1,13 +1,12 @@
 //! Wrong rules that look sensible. The comparison has to notice each of them: a test that cannot fail
 //! shows nothing.
 
-use crate::builds;
 use crate::case::{Case, Outcome};
-use crate::every_byte;
 use crate::group::{Group, Make};
-use crate::lookups;
 use crate::wrong_builds::*;
 use crate::wrong_lookups::*;
+use crate::wrong_reads::*;
+use crate::{alone, builds, every_byte, lookups};
 
 /// A wrong rule: what it is, the cases that show it, and the oracle that follows it.
 pub struct Slip {
@@ -23,9 +22,13 @@ const CASES: u64 = 6_000;
 /// The build of number 0 has one of the largest maps, which no wrong rule needs.
 const BUILDING: Make = |number, random| builds::any(number + 1, random);
 const LOOKING: Make = lookups::any;
-const DAMAGED: Make = every_byte::damaged_sheet;
+const CHECKING: Make = alone::check;
+const OPENING: Make = alone::open;
+/// Sheets and maps for all calls that take one.
+const SHEETS: Make = every_byte::damaged_sheet;
+const MAPS: Make = every_byte::damaged_map;
 
-const ALL: [(&str, Make, Wrong); 17] = [
+const OF_BUILDING: [(&str, Make, Wrong); 15] = [
     ("corners sampled", BUILDING, |c| coloured(c, &corners)),
     ("[0, 2] is Out", BUILDING, |c| coloured(c, &zero_out)),
     ("[-2, 0] is undecided", BUILDING, |c| {
@@ -40,15 +43,65 @@ const ALL: [(&str, Make, Wrong); 17] = [
     ("2^60 itself refused", BUILDING, |c| {
         coloured(c, &limit_refused)
     }),
+    ("sum and product exchanged", BUILDING, |c| {
+        coloured(c, &kinds_exchanged)
+    }),
+    ("z reads y", BUILDING, |c| coloured(c, &z_reads_y)),
+    ("either never passes a state on", BUILDING, |c| {
+        coloured(c, &either_not_passed_on)
+    }),
+    ("a complement changes nothing", BUILDING, |c| {
+        coloured(c, &complement_ignored)
+    }),
     ("children z first", BUILDING, z_first),
+    (
+        "Y and Z of the root exchanged",
+        BUILDING,
+        low_corner_exchanged,
+    ),
+    ("k at most 15", BUILDING, k_at_most_15),
     ("later bytes cleared", BUILDING, later_cleared),
     ("a short buffer filled", BUILDING, short_filled),
+];
+
+const OF_SHEETS: [(&str, Make, Wrong); 6] = [
+    ("offsets from the first record", SHEETS, offsets_from_record),
+    ("operands tested with the records", SHEETS, operands_early),
+    ("5 always with 0", SHEETS, solid_without_count),
+    ("checking: 5 always with 0", CHECKING, solid_without_count),
+    ("checking: the last record's number", CHECKING, last_record),
+    ("checking: a face of a face", CHECKING, face_of_face),
+];
+
+const OF_OPENING: [(&str, Make, Wrong); 9] = [
     (
-        "offsets from the first record",
-        DAMAGED,
-        offsets_from_record,
+        "opening: terminal leaves need a sheet",
+        OPENING,
+        faces_demanded,
     ),
-    ("operands tested with the records", DAMAGED, operands_early),
+    ("opening: leaves by the length", OPENING, leaves_by_length),
+    ("opening: gray above level d", OPENING, gray_above_depth),
+    ("opening: 4 and 5 exchanged", OPENING, offsets_exchanged),
+    ("opening: root before version", OPENING, root_before_version),
+    (
+        "opening: leaves past the last place",
+        OPENING,
+        stops_when_full,
+    ),
+    ("opening: k at most 15", OPENING, map_k_at_most_15),
+    (
+        "opening: the length may be less than the slice",
+        OPENING,
+        map_prefix,
+    ),
+    (
+        "opening: no leaves is a bad length",
+        OPENING,
+        no_leaves_length,
+    ),
+];
+
+const OF_LOOKING: [(&str, Make, Wrong); 8] = [
     ("the high planes are in the root", LOOKING, high_planes),
     ("class 3 not turned over", LOOKING, not_turned),
     ("leaves opened before faces are asked", LOOKING, faces_last),
@@ -59,10 +112,18 @@ const ALL: [(&str, Make, Wrong); 17] = [
     ),
     ("10 before 7", LOOKING, point_first),
     ("no leaves is a bad length", LOOKING, no_leaves_length),
+    ("gray above level d", MAPS, gray_above_depth),
+    (
+        "Y and Z of the map exchanged",
+        LOOKING,
+        map_corner_exchanged,
+    ),
 ];
 
 pub fn slips() -> impl Iterator<Item = Slip> {
-    ALL.into_iter().map(|(name, make, oracle)| Slip {
+    let of_reading = OF_SHEETS.into_iter().chain(OF_OPENING);
+    let all = OF_BUILDING.into_iter().chain(of_reading).chain(OF_LOOKING);
+    all.map(|(name, make, oracle)| Slip {
         name,
         group: Group {
             name: "wrong rules",

@@ -1,7 +1,7 @@
 //! Counts of what was covered.
 
 use crate::builds::Made;
-use crate::case::{Build, Case, Lookup, Outcome, PLACINGS};
+use crate::case::{Build, Call, Case, Lookup, Outcome, CALLS, PLACINGS};
 use crate::features;
 use paper::Reply;
 use std::collections::BTreeMap;
@@ -9,23 +9,26 @@ use std::collections::BTreeMap;
 /// Codes 0 to 11.
 pub const CODES: usize = 12;
 
+/// Where reply 9 finds fault: the length, the version, root or depth, a leaf, or leaves that stop short.
+const OFFSETS: usize = 5;
+
 type Counted = BTreeMap<&'static str, u64>;
 
 #[derive(Default)]
 pub struct Tally {
-    pub builds: u64,
-    pub lookups: u64,
     /// What cases were made as, and what they have.
     labels: Counted,
     features: Counted,
-    pub build_codes: [u64; CODES],
-    pub lookup_codes: [u64; CODES],
+    /// By call, and then by code.
+    codes: [[u64; CODES]; CALLS.len()],
+    /// By call, and then by where reply 9 found fault.
+    offsets: [[u64; OFFSETS]; CALLS.len()],
     /// Of lookups that were answered: outside, inside, undecided.
-    pub answers: [u64; 3],
+    answers: [u64; 3],
     /// Of builds that were done.
-    pub sides: [u64; 17],
-    pub depths: [u64; 11],
-    pub longest_map: u64,
+    sides: [u64; 17],
+    depths: [u64; 11],
+    longest_map: u64,
     placings: [u64; PLACINGS],
 }
 
@@ -36,13 +39,14 @@ impl Tally {
         for label in &made.labels {
             *self.labels.entry(label).or_default() += calls;
         }
+        self.placings[usize::from(made.case.placing())] += calls;
+        for &reply in &expected.replies {
+            self.count_reply(&made.case, reply);
+        }
         match &made.case {
-            Case::Build(build) => {
-                self.placings[usize::from(build.placing)] += calls;
-                self.count_build(build, expected.replies[0]);
-            }
+            Case::Check(_) | Case::Open(_) => (),
+            Case::Build(build) => self.count_build(build, expected.replies[0]),
             Case::Lookup(lookup) => {
-                self.placings[usize::from(lookup.placing)] += calls;
                 for (&point, &reply) in lookup.points.iter().zip(&expected.replies) {
                     self.count_lookup(lookup, point, reply);
                 }
@@ -50,9 +54,22 @@ impl Tally {
         }
     }
 
+    fn count_reply(&mut self, case: &Case, reply: Reply) {
+        let call = case.call() as usize;
+        self.codes[call][reply.code as usize] += 1;
+        if let (9, Some(map)) = (reply.code, case.map()) {
+            let sort = match reply.number {
+                0 => 0,
+                4 => 1,
+                5 => 2,
+                offset if offset < map.len() as u64 => 3,
+                _ => 4,
+            };
+            self.offsets[call][sort] += 1;
+        }
+    }
+
     fn count_build(&mut self, build: &Build, reply: Reply) {
-        self.builds += 1;
-        self.build_codes[reply.code as usize] += 1;
         self.count_features(features::of_build(build));
         if reply.code == 0 {
             self.sides[usize::from(build.root.k)] += 1;
@@ -63,8 +80,6 @@ impl Tally {
     }
 
     fn count_lookup(&mut self, lookup: &Lookup, point: [i32; 3], reply: Reply) {
-        self.lookups += 1;
-        self.lookup_codes[reply.code as usize] += 1;
         self.count_features(features::of_point(lookup, point));
         if reply.code == 0 {
             self.answers[reply.number as usize] += 1;
@@ -78,17 +93,39 @@ impl Tally {
     }
 
     pub fn add(&mut self, other: &Tally) {
-        self.builds += other.builds;
-        self.lookups += other.lookups;
         add_counted(&mut self.labels, &other.labels);
         add_counted(&mut self.features, &other.features);
-        add_each(&mut self.build_codes, &other.build_codes);
-        add_each(&mut self.lookup_codes, &other.lookup_codes);
+        for call in CALLS {
+            let call = call as usize;
+            add_each(&mut self.codes[call], &other.codes[call]);
+            add_each(&mut self.offsets[call], &other.offsets[call]);
+        }
         add_each(&mut self.answers, &other.answers);
         add_each(&mut self.sides, &other.sides);
         add_each(&mut self.depths, &other.depths);
         add_each(&mut self.placings, &other.placings);
         self.longest_map = self.longest_map.max(other.longest_map);
+    }
+
+    /// The codes that a call gave.
+    pub fn reached(&self, call: Call) -> Vec<usize> {
+        let counts = self.codes[call as usize];
+        (0..CODES).filter(|&code| counts[code] > 0).collect()
+    }
+
+    /// Whether reply 9 of a call found fault in each of the places where it can.
+    pub fn reached_all_offsets(&self, call: Call) -> bool {
+        self.offsets[call as usize].iter().all(|&count| count > 0)
+    }
+
+    /// How many calls there were, as '20 builds, 3 lookups'.
+    pub fn calls(&self) -> String {
+        let counted = CALLS.map(|call| (self.codes[call as usize].iter().sum::<u64>(), call));
+        let made = counted.iter().filter(|(count, _)| *count > 0);
+        let texts: Vec<String> = made
+            .map(|(count, call)| format!("{count} {}", call.name()))
+            .collect();
+        texts.join(", ")
     }
 
     /// Prints how many there were of each sort, a line each.
@@ -99,11 +136,17 @@ impl Tally {
         print_counted(&self.features);
     }
 
-    /// Prints what builds and lookups came to.
+    /// Prints what calls came to.
     pub fn print_outcomes(&self) {
         println!("  what came of them:");
-        println!("    build by code, 0 to 11: {}", list(&self.build_codes));
-        println!("    lookup by code, 0 to 11: {}", list(&self.lookup_codes));
+        for call in CALLS {
+            let codes = list(&self.codes[call as usize]);
+            println!("    {} by code, 0 to 11: {codes}", call.name());
+        }
+        for call in [Call::Open, Call::Lookup] {
+            let (name, offsets) = (call.name(), list(&self.offsets[call as usize]));
+            println!("    {name} refused by 9 for length, version, root or depth, a leaf, leaves that stop short: {offsets}");
+        }
         println!("    outside, inside, undecided: {}", list(&self.answers));
         println!("    calls by placing of slices: {}", list(&self.placings));
         println!("    maps built by k, 0 to 16: {}", list(&self.sides));

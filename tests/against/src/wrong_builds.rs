@@ -4,17 +4,18 @@ use crate::case::{Build, Case, Outcome};
 use crate::expect::{by_paper, of_map};
 use paper::bounds::{self, Interval, FURTHEST};
 use paper::build::{map_by, Colouring};
-use paper::colour::{self, Colour, BLACK, GRAY, TERMINAL, TERMINAL_COMPLEMENT, WHITE};
+use paper::colour::{self, Colour, Rules, State, RULES};
+use paper::colour::{BLACK, GRAY, TERMINAL, TERMINAL_COMPLEMENT, WHITE};
 use paper::fractions::{Point, Values};
-use paper::root::Cube;
+use paper::root::{Cube, Root};
 use paper::sheet::{self, Record, Sheet};
 use paper::Reply;
 
 /// Deeper maps by a wrong rule may have millions of leaves.
 const DEEPEST: u8 = 4;
 
-/// The outcome of a build by another colouring; of any other case, what the paper says.
-pub fn coloured(case: &Case, colouring: &Colouring) -> Outcome {
+/// The outcome of a build by another colouring and over another root; of any other case, what the paper says.
+fn built(case: &Case, colouring: &Colouring, over: impl Fn(&Root) -> Root) -> Outcome {
     let asked = match case {
         Case::Build(asked) if asked.root.d <= DEEPEST => asked,
         _ => return by_paper(case),
@@ -22,8 +23,30 @@ pub fn coloured(case: &Case, colouring: &Colouring) -> Outcome {
     let sheet = sheet::read(&asked.sheet);
     of_map(
         asked,
-        sheet.and_then(|sheet| map_by(colouring, &sheet, &asked.root)),
+        sheet.and_then(|sheet| map_by(colouring, &sheet, &over(&asked.root))),
     )
+}
+
+pub fn coloured(case: &Case, colouring: &Colouring) -> Outcome {
+    built(case, colouring, |root| *root)
+}
+
+pub fn low_corner_exchanged(case: &Case) -> Outcome {
+    built(case, &colour::colour, |root| {
+        let [x, y, z] = root.low;
+        Root {
+            low: [x, z, y],
+            ..*root
+        }
+    })
+}
+
+/// A side of 2^16 is out of limits too.
+pub fn k_at_most_15(case: &Case) -> Outcome {
+    built(case, &colour::colour, |root| Root {
+        k: if root.k == 16 { 17 } else { root.k },
+        ..*root
+    })
 }
 
 /// All corners inside is black, none is white.
@@ -46,7 +69,7 @@ pub fn corners(sheet: &Sheet, cube: &Cube) -> Result<Colour, usize> {
 fn by_bounds(sheet: &Sheet, cube: &Cube, other: fn(Interval) -> Interval) -> Result<Colour, usize> {
     let bounds = bounds::over(sheet, cube)?;
     let bounds: Vec<_> = bounds.into_iter().map(|one| one.map(other)).collect();
-    Ok(colour::class(colour::solid(sheet, &bounds)))
+    Ok(colour::class(colour::solid(&RULES, sheet, &bounds)))
 }
 
 pub fn zero_out(sheet: &Sheet, cube: &Cube) -> Result<Colour, usize> {
@@ -67,13 +90,60 @@ pub fn zero_undecided(sheet: &Sheet, cube: &Cube) -> Result<Colour, usize> {
     })
 }
 
-pub fn square_as_product(sheet: &Sheet, cube: &Cube) -> Result<Colour, usize> {
-    let unrelated = |record: &Record| match *record {
-        Record::Square(a) => Record::Product(a, a),
-        _ => record.clone(),
-    };
-    let records = sheet.records.iter().map(unrelated).collect();
+/// The paper's colour, from other records.
+fn by_records(
+    sheet: &Sheet,
+    cube: &Cube,
+    other: fn(&Record) -> Option<Record>,
+) -> Result<Colour, usize> {
+    let read = |record: &Record| other(record).unwrap_or(record.clone());
+    let records = sheet.records.iter().map(read).collect();
     colour::colour(&Sheet { records }, cube)
+}
+
+pub fn square_as_product(sheet: &Sheet, cube: &Cube) -> Result<Colour, usize> {
+    by_records(sheet, cube, |record| match *record {
+        Record::Square(a) => Some(Record::Product(a, a)),
+        _ => None,
+    })
+}
+
+pub fn kinds_exchanged(sheet: &Sheet, cube: &Cube) -> Result<Colour, usize> {
+    by_records(sheet, cube, |record| match *record {
+        Record::Sum(a, b) => Some(Record::Product(a, b)),
+        Record::Product(a, b) => Some(Record::Sum(a, b)),
+        _ => None,
+    })
+}
+
+pub fn z_reads_y(sheet: &Sheet, cube: &Cube) -> Result<Colour, usize> {
+    by_records(sheet, cube, |record| {
+        (*record == Record::Z).then_some(Record::Y)
+    })
+}
+
+/// The paper's colour, by other rules on states.
+fn by_rules(sheet: &Sheet, cube: &Cube, rules: &Rules) -> Result<Colour, usize> {
+    let bounds = bounds::over(sheet, cube)?;
+    Ok(colour::class(colour::solid(rules, sheet, &bounds)))
+}
+
+pub fn either_not_passed_on(sheet: &Sheet, cube: &Cube) -> Result<Colour, usize> {
+    let either = |p, q| match (p, q) {
+        (State::In, _) | (_, State::In) => State::In,
+        (State::Out, State::Out) => State::Out,
+        _ => State::Mixed,
+    };
+    by_rules(sheet, cube, &Rules { either, ..RULES })
+}
+
+pub fn complement_ignored(sheet: &Sheet, cube: &Cube) -> Result<Colour, usize> {
+    let complement = |p| p;
+    let rules = Rules {
+        complement,
+        ..RULES
+    };
+    by_rules(sheet, cube, &rules)
 }
 
 /// A leaf is terminal only if the sheet has one face.

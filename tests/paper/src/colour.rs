@@ -65,16 +65,29 @@ pub fn either(p: State, q: State) -> State {
     }
 }
 
+/// The rules on states of records, which colouring takes, so that a test can colour by a wrong one.
+pub struct Rules {
+    pub both: fn(State, State) -> State,
+    pub either: fn(State, State) -> State,
+    pub complement: fn(State) -> State,
+}
+
+pub const RULES: Rules = Rules {
+    both,
+    either,
+    complement,
+};
+
 /// The solid's state, from the bounds of all records.
-pub fn solid(sheet: &Sheet, bounds: &[Option<Interval>]) -> State {
+pub fn solid(rules: &Rules, sheet: &Sheet, bounds: &[Option<Interval>]) -> State {
     let mut states: Vec<Option<State>> = Vec::new();
     for (number, record) in sheet.records.iter().enumerate() {
         let of = |p: usize| states[p].expect("an operand is logical");
         let state = match *record {
             Face(a) => Some(face(number, bounds[a].expect("an operand is arithmetic"))),
-            Both(p, q) => Some(both(of(p), of(q))),
-            Either(p, q) => Some(either(of(p), of(q))),
-            Complement(p) => Some(complement(of(p))),
+            Both(p, q) => Some((rules.both)(of(p), of(q))),
+            Either(p, q) => Some((rules.either)(of(p), of(q))),
+            Complement(p) => Some((rules.complement)(of(p))),
             _ => None,
         };
         states.push(state);
@@ -100,5 +113,5 @@ pub fn class(solid: State) -> Colour {
 /// The colour of a cube, or the first record whose bounds over it pass 2^60.
 pub fn colour(sheet: &Sheet, cube: &Cube) -> Result<Colour, usize> {
     let bounds = bounds::over(sheet, cube)?;
-    Ok(class(solid(sheet, &bounds)))
+    Ok(class(solid(&RULES, sheet, &bounds)))
 }

@@ -28,7 +28,7 @@ pub fn lookup(sheet: &[u8], map: &[u8], point: [i32; 3]) -> Reply {
 /// The part of a lookup that does not depend on the point.
 pub fn open(sheet: &[u8], map: &[u8]) -> Result<Opened, Refusal> {
     let sheet = sheet::read(sheet)?;
-    let map = map::open(map, &sheet)?;
+    let map = map::read_for(map, &sheet)?;
     bounds::over(&sheet, &map.root.cube()).map_err(|record| reply(7, record))?;
     Ok(Opened { sheet, map })
 }

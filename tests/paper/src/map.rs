@@ -3,7 +3,7 @@
 use crate::colour::{Colour, GRAY, TERMINAL, TERMINAL_COMPLEMENT};
 use crate::root::{Cube, Root};
 use crate::sheet::Sheet;
-use crate::{reply, Refusal};
+use crate::{reply, Refusal, Reply};
 
 #[derive(Clone, Copy, Debug, PartialEq, Eq)]
 pub struct Leaf {
@@ -36,8 +36,28 @@ pub fn write(root: &Root, leaves: &[Leaf]) -> Vec<u8> {
     bytes
 }
 
-/// Opens a map for a sheet, or refuses it by reply 9 with the offset of the first fault.
-pub fn open(bytes: &[u8], sheet: &Sheet) -> Result<Map, Refusal> {
+/// Opens a map, whatever sheet it is of: one that opens gives the number of its leaves.
+pub fn open(bytes: &[u8]) -> Reply {
+    match read(bytes) {
+        Ok(map) => reply(0, map.leaves.len()),
+        Err(refusal) => refusal,
+    }
+}
+
+/// Reads a map without the sheet clause: a terminal leaf may name any record.
+pub fn read(bytes: &[u8]) -> Result<Map, Refusal> {
+    read_with(bytes, &|_| true)
+}
+
+/// Reads a map for a sheet: a terminal leaf that names no face of it is a fault too, in order of offset
+/// with the others.
+pub fn read_for(bytes: &[u8], sheet: &Sheet) -> Result<Map, Refusal> {
+    read_with(bytes, &|number| sheet.is_face(number))
+}
+
+/// Reads a map whose terminal leaves may name these records, or refuses it by reply 9 with the offset of
+/// the first fault.
+fn read_with(bytes: &[u8], may_name: &dyn Fn(usize) -> bool) -> Result<Map, Refusal> {
     if !length_is_good(bytes) {
         return Err(reply(9, 0));
     }
@@ -49,7 +69,7 @@ pub fn open(bytes: &[u8], sheet: &Sheet) -> Result<Map, Refusal> {
         return Err(reply(9, 5));
     }
     let leaves: Vec<Leaf> = bytes[HEADER..].chunks(LEAF).map(leaf).collect();
-    match first_bad(&root, &leaves, sheet) {
+    match first_bad(&root, &leaves, may_name) {
         Some(number) => Err(reply(9, HEADER + LEAF * number)),
         None => Ok(Map { root, leaves }),
     }
@@ -86,11 +106,11 @@ fn leaf(three: &[u8]) -> Leaf {
 }
 
 /// The first leaf that is not good, or that is missing.
-fn first_bad(root: &Root, leaves: &[Leaf], sheet: &Sheet) -> Option<usize> {
+fn first_bad(root: &Root, leaves: &[Leaf], may_name: &dyn Fn(usize) -> bool) -> Option<usize> {
     let mut place = 0;
     for (number, leaf) in leaves.iter().enumerate() {
-        let is_good = leaf.is_good(root.d) && leaf.fits(root.d, place) && leaf.names_face(sheet);
-        if !is_good {
+        let names_well = !leaf.is_terminal() || may_name(usize::from(leaf.colour.face));
+        if !(leaf.is_good(root.d) && leaf.fits(root.d, place) && names_well) {
             return Some(number);
         }
         place += size(root.d, leaf.level);
@@ -116,11 +136,6 @@ impl Leaf {
     fn fits(&self, d: u8, place: u64) -> bool {
         let own = size(d, self.level);
         place.is_multiple_of(own) && place + own <= size(d, 0)
-    }
-
-    /// A terminal leaf names a face of the sheet.
-    fn names_face(&self, sheet: &Sheet) -> bool {
-        !self.is_terminal() || sheet.is_face(usize::from(self.colour.face))
     }
 
     pub fn is_terminal(&self) -> bool {

@@ -4,8 +4,9 @@ use crate::bounds::{interval, over};
 use crate::build::{build, map_of};
 use crate::colour::{self, State};
 use crate::lookup::{lookup, INSIDE, OUTSIDE, UNDECIDED};
+use crate::map::open;
 use crate::root::{Cube, Root};
-use crate::sheet::{self, Record::*, Sheet};
+use crate::sheet::{self, check, Record::*, Sheet};
 use crate::{reply, Reply};
 
 /// Bytes written in hex.
@@ -129,8 +130,14 @@ fn the_limit_is_reached_and_passed() {
 }
 
 #[test]
+fn sheets_that_are_good() {
+    is(check(&s()), 0, 8);
+    is(check(&sheet::write(&[Z, Face(0)])), 0, 2);
+}
+
+#[test]
 fn sheets_that_are_refused() {
-    let refused = |text| sheet::read(&hex(text)).unwrap_err();
+    let refused = |text| check(&hex(text));
     is(refused(""), 1, 0);
     is(refused("00 00"), 1, 0);
     is(refused("00 02 01"), 1, 0);
@@ -153,12 +160,12 @@ fn sheets_that_are_refused() {
 fn at_most_256_records() {
     let mut records = vec![X; 255];
     records.push(Face(0));
-    assert!(sheet::read(&sheet::write(&records)).is_ok());
+    is(check(&sheet::write(&records)), 0, 256);
     let mut one_more = sheet::write(&records);
     let length = one_more.len();
     one_more.push(200);
     one_more[..2].copy_from_slice(&(length as u16 - 1).to_be_bytes());
-    is(sheet::read(&one_more).unwrap_err(), 3, length);
+    is(check(&one_more), 3, length);
 }
 
 #[test]
@@ -182,8 +189,19 @@ fn changed(at: usize, bytes: &str) -> Vec<u8> {
 }
 
 #[test]
+fn maps_that_open() {
+    is(open(&step_room()), 0, 8);
+    let of_depth = |d| open(&map_of(&s(), &root(0, 2, d)).unwrap());
+    is(of_depth(0), 0, 1);
+    is(of_depth(2), 0, 22);
+}
+
+#[test]
 fn maps_that_are_refused() {
-    let refused = |map: &[u8], offset| is(lookup(&s(), map, [0, 0, 0]), 9, offset);
+    let refused = |map: &[u8], offset| {
+        is(open(map), 9, offset);
+        is(lookup(&s(), map, [0, 0, 0]), 9, offset);
+    };
     refused(&[], 0);
     refused(&step_room()[..42], 0);
     refused(&[step_room(), vec![0]].concat(), 0);
@@ -200,8 +218,18 @@ fn maps_that_are_refused() {
     refused(&changed(22, "00 01 00"), 22);
     refused(&changed(22, "01 05 00"), 22);
     refused(&changed(22, "01 01 05"), 22);
-    // A terminal leaf that names no face comes in order of offset with other bad leaves.
-    refused(&changed(22, "01 02 07 01 09 00"), 22);
+}
+
+#[test]
+fn only_lookup_asks_whether_a_terminal_leaf_names_a_face() {
+    let mut no_face = step_room();
+    no_face[24] = 7;
+    is(open(&no_face), 0, 8);
+    is(lookup(&s(), &no_face, [0, 0, 0]), 9, 22);
+    // It comes in order of offset with other bad leaves.
+    let two_faults = changed(22, "01 02 07 01 09 00");
+    is(open(&two_faults), 9, 25);
+    is(lookup(&s(), &two_faults, [0, 0, 0]), 9, 22);
 }
 
 #[test]

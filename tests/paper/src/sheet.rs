@@ -1,6 +1,6 @@
 //! "The zone sheet", and replies 1 to 5.
 
-use crate::{reply, Refusal};
+use crate::{reply, Refusal, Reply};
 
 /// A record; an operand is the number of an earlier one.
 #[derive(Clone, Debug, PartialEq, Eq)]
@@ -109,6 +109,14 @@ impl Sheet {
     }
 }
 
+/// Tests a sheet: a good one gives the number of its records.
+pub fn check(bytes: &[u8]) -> Reply {
+    match read(bytes) {
+        Ok(sheet) => reply(0, sheet.records.len()),
+        Err(refusal) => refusal,
+    }
+}
+
 /// Reads a sheet, or refuses it by the first of replies 1 to 5 that is due.
 pub fn read(bytes: &[u8]) -> Result<Sheet, Refusal> {
     if bytes.len() < 3 || usize::from(u16::from_be_bytes([bytes[0], bytes[1]])) != bytes.len() - 2 {
@@ -128,7 +136,7 @@ pub fn read(bytes: &[u8]) -> Result<Sheet, Refusal> {
 }
 
 /// All records, whatever their operands are, or reply 3 at the first that is none.
-fn framed(bytes: &[u8]) -> Result<Vec<Record>, Refusal> {
+pub fn framed(bytes: &[u8]) -> Result<Vec<Record>, Refusal> {
     let mut records = Vec::new();
     let mut offset = FIRST_RECORD;
     while offset < bytes.len() {

@@ -1,4 +1,4 @@
-/* Builds the map of the step room, x at most 2 and y at most 2, and looks points up in it. */
+/* Checks the sheet of the step room, x at most 2 and y at most 2, builds its map, opens it as a panel does, and looks points up in it. */
 #include "zone.h"
 #include <stdio.h>
 
@@ -32,7 +32,16 @@ static void print_refusal(ZoneReply reply) {
     printf("refused by %u with %llu, %s\n", reply.code, (unsigned long long)reply.number, why(reply.code));
 }
 
-/* Looks a point up, says where it lies, and answers the code. */
+/* Prints the number that a call gives, or why it refuses, and returns whether it is done. */
+static int told(const char *before, ZoneReply reply, const char *after) {
+    if (reply.code == ZONE_DONE)
+        printf("%s %llu %s\n", before, (unsigned long long)reply.number, after);
+    else
+        print_refusal(reply);
+    return reply.code == ZONE_DONE;
+}
+
+/* Looks a point up, says where it lies, and returns the code. */
 static uint32_t look(const uint8_t *map, size_t map_len, int32_t x, int32_t y, int32_t z) {
     static const char *const words[] = {"outside", "inside", "undecided, ask the guest"};
     ZoneReply reply = zone_lookup(sheet, sizeof sheet, map, map_len, x, y, z);
@@ -46,13 +55,12 @@ static uint32_t look(const uint8_t *map, size_t map_len, int32_t x, int32_t y, i
 
 int main(void) {
     uint8_t map[64];
-    ZoneReply built = zone_build(sheet, sizeof sheet, 0, 0, 0, 2, 1, map, sizeof map);
-    if (built.code != ZONE_DONE) {
-        print_refusal(built);
+    if (!told("the sheet has", zone_check(sheet, sizeof sheet), "records"))
         return 1;
-    }
-    size_t length = built.number;
-    printf("the map has %llu bytes\n", (unsigned long long)length);
+    ZoneReply built = zone_build(sheet, sizeof sheet, 0, 0, 0, 2, 1, map, sizeof map);
+    size_t length = (size_t)built.number;
+    if (!told("the map has", built, "bytes") || !told("it opens, with", zone_open(map, length), "leaves"))
+        return 1;
     int good = look(map, length, 0, 0, 0) == ZONE_DONE;
     good &= look(map, length, 3, 0, 0) == ZONE_DONE;
     good &= look(map, length, 2, 2, 0) == ZONE_DONE;

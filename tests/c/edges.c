@@ -1,4 +1,5 @@
-/* Calls at the edges of what zone.h promises: no bytes, a buffer that is a byte short, and a map that lies in the buffer of its sheet.
+/* Calls at the edges of what zone.h promises: no bytes, a byte too few, a map that lies in the buffer of its sheet, and a leaf that
+   names no face.
    Prints a line for each that is answered otherwise, and exits with 1 if there is one. */
 #include "zone.h"
 #include <stdio.h>
@@ -26,14 +27,18 @@ static int all_are(const uint8_t *at, size_t length, uint8_t byte) {
 }
 
 static void no_bytes(void) {
+    is("no sheet to check", zone_check(NONE, 0), ZONE_SHEET_LENGTH, 0);
     is("no sheet", zone_build(NONE, 0, 0, 0, 0, 2, 1, NONE, 0), ZONE_SHEET_LENGTH, 0);
     is("no buffer", zone_build(bytes, sheet_len, 0, 0, 0, 2, 1, NONE, 0), ZONE_SHORT, 43);
+    is("no map to open", zone_open(NONE, 0), ZONE_MAP, 0);
     is("no sheet to look up by", zone_lookup(NONE, 0, NONE, 0, 0, 0, 0), ZONE_SHEET_LENGTH, 0);
     is("no map", zone_lookup(bytes, sheet_len, NONE, 0, 0, 0, 0), ZONE_MAP, 0);
 }
 
 static void a_byte_short(void) {
     uint8_t *out = bytes + sheet_len;
+    is("the whole sheet", zone_check(bytes, sheet_len), ZONE_DONE, 8);
+    is("a sheet that is a byte short", zone_check(bytes, sheet_len - 1), ZONE_SHEET_LENGTH, 0);
     is("a byte short", zone_build(bytes, sheet_len, 0, 0, 0, 2, 1, out, 42), ZONE_SHORT, 43);
     if (!all_are(out, 43, 0)) {
         printf("a byte short: the buffer was changed\n");
@@ -44,15 +49,28 @@ static void a_byte_short(void) {
 static void side_by_side(void) {
     uint8_t *map = bytes + sheet_len;
     is("sheet and map side by side", zone_build(bytes, sheet_len, 0, 0, 0, 2, 1, map, 43), ZONE_DONE, 43);
+    is("the whole map", zone_open(map, 43), ZONE_DONE, 8);
+    is("a map that is a byte short", zone_open(map, 42), ZONE_MAP, 0);
     is("the furthest numbers", zone_lookup(bytes, sheet_len, map, 43, INT32_MIN, INT32_MAX, -1), ZONE_NOT_IN_ROOT, 0);
     is("a point by face 5", zone_lookup(bytes, sheet_len, map, 43, 2, 0, 0), ZONE_DONE, ZONE_INSIDE);
     is("the sheet as the map", zone_lookup(bytes, sheet_len, bytes, sheet_len, 0, 0, 0), ZONE_MAP, 0);
+    is("the sheet to be opened", zone_open(bytes, sheet_len), ZONE_MAP, 0);
+    is("the map to be checked", zone_check(map, 43), ZONE_SHEET_LENGTH, 0);
     is("all numbers at their greatest", zone_build(bytes, sheet_len, INT32_MAX, INT32_MAX, INT32_MAX, 255, 255, map, 43), ZONE_LIMITS, 0);
+}
+
+/* The second leaf names record 7, which is no face: only a lookup has the sheet to tell by. */
+static void no_face(void) {
+    uint8_t *map = bytes + sheet_len;
+    map[24] = 7;
+    is("a leaf that names no face, opened", zone_open(map, 43), ZONE_DONE, 8);
+    is("a leaf that names no face, looked up", zone_lookup(bytes, sheet_len, map, 43, 0, 0, 0), ZONE_MAP, 22);
 }
 
 int main(void) {
     no_bytes();
     a_byte_short();
     side_by_side();
+    no_face();
     return failed;
 }

@@ -46,14 +46,22 @@ static int is_small(const char *call, size_t bytes) {
 
 int main(void) {
     paint();
+    ZoneReply checked = zone_check(sheet, sizeof sheet);
+    size_t checking = used();
+    paint();
     ZoneReply built = zone_build(sheet, sizeof sheet, 0, 0, 0, 10, 10, map, sizeof map);
     size_t building = used();
     paint();
+    ZoneReply opened = zone_open(map, (size_t)built.number);
+    size_t opening = used();
+    paint();
     ZoneReply found = zone_lookup(sheet, sizeof sheet, map, (size_t)built.number, 341, 341, 341);
     size_t looking_up = used();
-    if (built.code != ZONE_DONE || found.code != ZONE_DONE || found.number != ZONE_UNDECIDED) {
-        printf("the sheet is not as it was meant: %u %u, %u %u\n", built.code, (unsigned)built.number, found.code, (unsigned)found.number);
+    if (checked.code != ZONE_DONE || built.code != ZONE_DONE || opened.code != ZONE_DONE || found.code != ZONE_DONE ||
+        found.number != ZONE_UNDECIDED) {
+        printf("the sheet is not as it was meant: %u, %u, %u, %u\n", checked.code, built.code, opened.code, found.code);
         return 1;
     }
-    return !(is_small("zone_build", building) & is_small("zone_lookup", looking_up));
+    return !(is_small("zone_check", checking) & is_small("zone_build", building) & is_small("zone_open", opening) &
+             is_small("zone_lookup", looking_up));
 }

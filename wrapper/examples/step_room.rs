@@ -1,4 +1,4 @@
-//! Builds the map of the step room, x at most 2 and y at most 2, and looks points up in it.
+//! Checks the sheet of the step room, x at most 2 and y at most 2, builds its map, opens it as a panel does, and looks points up.
 use zone::{Refusal, Root};
 
 const SHEET: &[u8] = include_bytes!("../../examples/step-room.sheet");
@@ -19,8 +19,10 @@ fn map_of(sheet: &[u8], root: Root) -> Result<Vec<u8>, Refusal> {
 }
 
 fn main() -> Result<(), Refusal> {
+    println!("the sheet has {} records", zone::check(SHEET)?);
     let map = map_of(SHEET, ROOT)?;
     println!("the map has {} bytes", map.len());
+    println!("it opens, with {} leaves", zone::open(&map)?);
     for point in [[0, 0, 0], [3, 0, 0], [2, 2, 0]] {
         println!("{point:?}: {:?}", zone::lookup(SHEET, &map, point)?);
     }

@@ -1,4 +1,4 @@
-//! The two calls as C sees them (`include/zone.h`). All that is unsafe is here.
+//! The calls as C sees them (`include/zone.h`). All that is unsafe is here.
 use crate::Root;
 
 /// A reply by document 01's code and number.
@@ -9,6 +9,8 @@ pub struct ZoneReply {
 }
 
 extern "C" {
+    fn zone_check(sheet: *const u8, sheet_len: usize) -> ZoneReply;
+
     fn zone_build(
         sheet: *const u8,
         sheet_len: usize,
@@ -21,6 +23,8 @@ extern "C" {
         out_len: usize,
     ) -> ZoneReply;
 
+    fn zone_open(map: *const u8, map_len: usize) -> ZoneReply;
+
     fn zone_lookup(
         sheet: *const u8,
         sheet_len: usize,
@@ -30,6 +34,12 @@ extern "C" {
         y: i32,
         z: i32,
     ) -> ZoneReply;
+}
+
+pub fn check(sheet: &[u8]) -> ZoneReply {
+    // SAFETY: the pointer goes with the slice's length, and the slice is lent for the length of the call, which only reads. The
+    // call has no other needs: it is proved for all bytes.
+    unsafe { zone_check(sheet.as_ptr(), sheet.len()) }
 }
 
 pub fn build(sheet: &[u8], root: Root, out: &mut [u8]) -> ZoneReply {
@@ -49,6 +59,11 @@ pub fn build(sheet: &[u8], root: Root, out: &mut [u8]) -> ZoneReply {
             out.len(),
         )
     }
+}
+
+pub fn open(map: &[u8]) -> ZoneReply {
+    // SAFETY: as for `check`.
+    unsafe { zone_open(map.as_ptr(), map.len()) }
 }
 
 pub fn lookup(sheet: &[u8], map: &[u8], [x, y, z]: [i32; 3]) -> ZoneReply {

@@ -1,8 +1,9 @@
-//! Zone maps: building one from a zone sheet, and looking a point up in it. Both calls are proved, for all bytes and numbers, to
-//! answer by the rules of document 01; this crate makes their replies Rust values.
+//! Zone maps: checking a zone sheet, building its map, opening a map, and looking a point up in it. All calls are proved, for all
+//! bytes and numbers, to answer by the rules of document 01; this crate makes their replies Rust values.
 mod ffi;
 mod refusal;
 
+use ffi::ZoneReply;
 pub use refusal::Refusal;
 
 /// Where a map is built: the root's low corner, its side 2^k in units of 1/256 metre, and the depth d.
@@ -22,14 +23,30 @@ pub enum Answer {
     Undecided = 2,
 }
 
-/// Builds the zone map of a sheet at the start of `out` and answers its length; later bytes stay. A refusal leaves all bytes of
-/// `out` as they were, and [`Refusal::Short`] has the length that is needed.
-pub fn build(sheet: &[u8], root: Root, out: &mut [u8]) -> Result<usize, Refusal> {
-    let reply = ffi::build(sheet, root, out);
+/// The number that comes with code 0.
+fn number(reply: ZoneReply) -> Result<usize, Refusal> {
     match reply.code {
         0 => Ok(reply.number as usize),
         code => Err(Refusal::new(code, reply.number)),
     }
+}
+
+/// Checks a sheet by itself and returns the number of its records. The other calls that take a sheet refuse it for the same
+/// reasons; over some root it may still be refused by [`Refusal::OverRoot`].
+pub fn check(sheet: &[u8]) -> Result<usize, Refusal> {
+    number(ffi::check(sheet))
+}
+
+/// Builds the zone map of a sheet at the start of `out` and returns its length; later bytes stay. A refusal leaves all bytes of
+/// `out` as they were, and [`Refusal::Short`] has the length that is needed.
+pub fn build(sheet: &[u8], root: Root, out: &mut [u8]) -> Result<usize, Refusal> {
+    number(ffi::build(sheet, root, out))
+}
+
+/// Opens a zone map by itself, whatever sheet it is of, and returns the number of its leaves. All bytes of `map` are the map. A
+/// terminal leaf may name any record here; [`lookup`] also refuses a leaf that names no face of its sheet.
+pub fn open(map: &[u8]) -> Result<usize, Refusal> {
+    number(ffi::open(map))
 }
 
 /// Looks a point up in a zone map of a sheet. All bytes of `map` are the map.

@@ -20,7 +20,8 @@ pub enum Refusal {
     OverRoot { record: usize },
     /// 8, of building: the buffer is shorter than the map.
     Short { needed: usize },
-    /// 9, of looking up: the map does not open, or a terminal leaf names a record that is not a face of the sheet.
+    /// 9, of opening and looking up: the map does not open. Of looking up also: a terminal leaf names a record that is not a face
+    /// of the sheet.
     Map { offset: usize },
     /// 10, of looking up: the point is not in the root, its high planes left out.
     NotInRoot,
@@ -111,7 +112,7 @@ impl Display for Refusal {
             Map { offset: 5 } => write!(f, "the map's root or depth is out of limits"),
             Map { offset } => write!(
                 f,
-                "the map's leaf at byte {offset} is bad for this sheet, or the leaves stop short there"
+                "the map's leaf at byte {offset} is bad, by itself or for the sheet of a lookup, or the leaves stop short there"
             ),
             NotInRoot => write!(f, "the point is not in the map's root"),
             OverSmaller { record } => {

@@ -1,5 +1,5 @@
-//! Document 01's rows through the safe calls: the step room, its lookups, and refusals of both calls.
-use zone::{build, lookup, Answer, Refusal, Root};
+//! Document 01's rows through the safe calls: the step room, its lookups, and refusals of all calls.
+use zone::{build, check, lookup, open, Answer, Refusal, Root};
 
 const SHEET: &[u8] = include_bytes!("../../examples/step-room.sheet");
 
@@ -23,6 +23,11 @@ fn damaged(at: usize, byte: u8) -> Vec<u8> {
     let mut bytes = map();
     bytes[at] = byte;
     bytes
+}
+
+#[test]
+fn the_step_room_is_a_good_sheet() {
+    assert_eq!(check(SHEET), Ok(8));
 }
 
 #[test]
@@ -52,6 +57,14 @@ fn an_empty_buffer_is_told_the_length() {
 }
 
 #[test]
+fn a_map_that_was_built_opens() {
+    assert_eq!(open(&map()), Ok(8));
+    let mut out = [7; 85];
+    assert_eq!(build(SHEET, root(2), &mut out), Ok(85));
+    assert_eq!(open(&out), Ok(22));
+}
+
+#[test]
 fn points_of_the_step_room() {
     let at = |point| lookup(SHEET, &map(), point);
     assert_eq!(at([2, 0, 0]), Ok(Answer::Inside));
@@ -61,7 +74,7 @@ fn points_of_the_step_room() {
 }
 
 #[test]
-fn bad_sheets_are_refused_by_both_calls() {
+fn bad_sheets_are_refused_alike_by_all_calls() {
     for (sheet, why) in [
         (&[0, 0][..], Refusal::SheetLength),
         (&[0, 1, 2], Refusal::SheetVersion),
@@ -70,6 +83,7 @@ fn bad_sheets_are_refused_by_both_calls() {
         (&[0, 1, 1], Refusal::Solid { records: 0 }),
         (&[0, 3, 1, 1, 2], Refusal::Solid { records: 1 }),
     ] {
+        assert_eq!(check(sheet), Err(why));
         let mut out = [7; 43];
         assert_eq!(build(sheet, root(1), &mut out), Err(why));
         assert_eq!(out, [7; 43]);
@@ -113,25 +127,37 @@ fn the_limit_of_bounds() {
 
 #[test]
 fn damaged_maps_are_refused_at_their_first_fault() {
-    let refused = |map: &[u8]| lookup(SHEET, map, [0, 0, 0]);
-    let at = |offset| Err(Refusal::Map { offset });
-    assert_eq!(refused(&[]), at(0));
-    assert_eq!(refused(&[map(), vec![0]].concat()), at(0));
-    assert_eq!(refused(&damaged(3, 0x28)), at(0));
-    assert_eq!(refused(&damaged(4, 2)), at(4));
-    assert_eq!(refused(&damaged(17, 17)), at(5));
-    assert_eq!(refused(&damaged(18, 3)), at(5));
-    // The second leaf has a level past the depth, an unknown class, and a record that is no face.
-    assert_eq!(refused(&damaged(22, 2)), at(22));
-    assert_eq!(refused(&damaged(23, 5)), at(22));
-    assert_eq!(refused(&damaged(24, 7)), at(22));
+    let refused = |map: &[u8], offset| {
+        assert_eq!(open(map), Err(Refusal::Map { offset }));
+        let found = lookup(SHEET, map, [0, 0, 0]);
+        assert_eq!(found, Err(Refusal::Map { offset }));
+    };
+    refused(&[], 0);
+    refused(&[map(), vec![0]].concat(), 0);
+    refused(&damaged(3, 0x28), 0);
+    refused(&damaged(4, 2), 4);
+    refused(&damaged(17, 17), 5);
+    refused(&damaged(18, 3), 5);
+    // The second leaf has a level past the depth, and an unknown class.
+    refused(&damaged(22, 2), 22);
+    refused(&damaged(23, 5), 22);
     // The first leaf is black and names a face, and is the whole root, so that none can follow.
-    assert_eq!(refused(&damaged(21, 5)), at(19));
-    assert_eq!(refused(&damaged(19, 0)), at(22));
+    refused(&damaged(21, 5), 19);
+    refused(&damaged(19, 0), 22);
     // Seven leaves stop short.
     let mut short = damaged(3, 0x24);
     short.truncate(40);
-    assert_eq!(refused(&short), at(40));
+    refused(&short, 40);
+}
+
+#[test]
+fn only_a_lookup_asks_whether_a_leaf_names_a_face() {
+    let no_face = damaged(24, 7);
+    assert_eq!(open(&no_face), Ok(8));
+    assert_eq!(
+        lookup(SHEET, &no_face, [0, 0, 0]),
+        Err(Refusal::Map { offset: 22 })
+    );
 }
 
 #[test]
@@ -139,6 +165,10 @@ fn a_refusal_has_the_code_and_number_of_document_01() {
     let why = build(SHEET, root(1), &mut [0; 42]).unwrap_err();
     assert_eq!((why.code(), why.number()), (8, 43));
     assert_eq!(why.to_string(), "the map needs a buffer of 43 bytes");
-    let why = lookup(SHEET, &damaged(23, 5), [0, 0, 0]).unwrap_err();
+    let why = open(&damaged(23, 5)).unwrap_err();
     assert_eq!((why.code(), why.number()), (9, 22));
+    assert_eq!(
+        why.to_string(),
+        "the map's leaf at byte 22 is bad, by itself or for the sheet of a lookup, or the leaves stop short there"
+    );
 }

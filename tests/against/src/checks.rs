@@ -199,7 +199,7 @@ fn relations(run: &mut Run) -> Result<(), String> {
     let counts = [held.sheets_refused, held.maps_refused, held.maps_built];
     let [sheets, maps, built] = counts;
     let what = format!(
-        "relations: {sheets} refused sheets, {maps} refused maps and {built} built maps, the calls agree"
+        "relations: {sheets} refused sheets, {maps} refused maps and {built} built maps, given to all calls"
     );
     run.count(&what, held.broken.is_none() && !counts.contains(&0));
     Ok(())

@@ -1,4 +1,6 @@
 pub mod Rows
+pub mod KindNumbers
+pub mod OperandsMet
 pub mod Walk
 pub mod Arrays
 pub mod Sorting

@@ -1,0 +1,31 @@
+-- Which byte counts most, and what bits a negative number has: that numbers are read back as they were written (`Written`) says neither. Assumes nothing.
+use mathlib.Core.Path.{_≡_, refl, ap, _∙_}
+use mathlib.Core.List.{List}
+use Prim.Native.Nat.{ℕ, zero, suc, _+_, _*_, _^_, _≤_}
+use native.Mathlib.Nat.{add-zero, add-suc}
+use native.Mathlib.Omega.{arith}
+use lib.IntN.{pos, negsuc}
+use lib.ListN.{getD}
+use Rattle.bigendian.specs.Numbers.{unsignedAt, unsigned32}
+
+-- one byte is its number, and of some bytes after one another the first count 256 times as much for each of the others
+pub one-byte : (s : List ℕ) (at : ℕ) → unsignedAt 1 s at ≡ getD s at 0
+unfolding unsignedAt
+one-byte s at = rw (add-zero at) (omega arith)
+
+pub first-count-most : (n m : ℕ) (s : List ℕ) (at : ℕ) → unsignedAt (n + m) s at ≡ unsignedAt n s at * 256 ^ m + unsignedAt m s (at + n)
+unfolding unsignedAt
+first-count-most n zero s at = rw (add-zero n) (omega arith)
+first-count-most n (suc m) s at =
+    let e : at + (n + m) ≡ at + n + m = omega arith in
+    let p : 256 ^ suc m ≡ 256 * 256 ^ m = omega arith in
+    rw (add-suc n m, first-count-most n m s at, e, p) (omega arith)
+
+-- two's complement: a number that is not negative is its bits, and the bits of -n are n less than 2^32
+pub plain-bits : (n : ℕ) → unsigned32 (pos n) ≡ n
+unfolding unsigned32
+plain-bits n = refl
+
+pub complement-bits : (n : ℕ) → suc n ≤ 2 ^ 31 → unsigned32 (negsuc n) + suc n ≡ 2 ^ 32
+unfolding unsigned32
+complement-bits n h = omega arith

@@ -5,5 +5,6 @@ pub mod Products
 pub mod Operations
 pub mod Inclusion
 pub mod Inside
+pub mod Reached
 pub mod AtPoint
 pub mod Rows

@@ -6,5 +6,6 @@ pub mod Scan
 pub mod Found
 pub mod Opens
 pub mod Trip
+pub mod ByteNumbers
 pub mod Rows
 pub mod Tiling

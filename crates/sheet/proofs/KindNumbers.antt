@@ -1,16 +1,16 @@
 -- Document 01's table of kinds by its numbers: each row, that there is no other, and the sorts of a record and of its operands by its kind. Assumes nothing.
 use mathlib.Core.Path.{_≡_, refl, sym, ap, ap₂, _∙_}
-use mathlib.Core.Bool.{Bool, true, false, cond, _&&_, true≢false, and-eq-true-iff}
+use mathlib.Core.Bool.{true, cond, _&&_, true≢false, and-eq-true-iff}
 use Prim.Native.Nat.{ℕ}
 use borrow.Author.Tests.{eqb-true}
 use lib.Dec.{eqb, leb}
 use lib.IntN.{ℤ}
+use Rattle.integers.proofs.Order.{by-test}
 use Rattle.sheet.specs.declared.Record.{Record}
 use Rattle.sheet.specs.declared.Record.the-variants.{Constant, X, Y, Z, Sum, Difference, Product, Square, Face, Both, Either, Complement}
-use Rattle.sheet.specs.declared.Row.{Row}
 use Rattle.sheet.specs.declared.Row.the-variants.{Known, Unknown}
 use Rattle.sheet.specs.declared.Sort.the-variants.{Neither, Arithmetic, Logical}
-use Rattle.sheet.specs.Table.{rowOf}
+use Rattle.sheet.specs.Table.{rowOf, isKnown}
 use Rattle.sheet.specs.Operands.{sortOf, askedOf}
 
 -- ---- the table: count byte, kind, record
@@ -74,10 +74,6 @@ countOf (Both p q) = 3
 countOf (Either p q) = 3
 countOf (Complement p) = 2
 
-by-test : {A : Type 0} (b : Bool) → (b ≡ true → A) → (b ≡ false → A) → A
-by-test true f g = f refl
-by-test false f g = g refl
-
 module _ (size kind a b : ℕ) (c : ℤ) (r : Record) (known : rowOf size kind a b c ≡ Known r) where
   abbrev Told : Type 0
   Told = (size ≡ countOf r) × (kind ≡ kindOf r)
@@ -107,14 +103,7 @@ module _ (size kind a b : ℕ) (c : ℤ) (r : Record) (known : rowOf size kind a
       by-test (eqb size 3 && eqb kind 18) (hit (Either a b) refl) (λ t11.
       by-test (eqb size 2 && eqb kind 19) (hit (Complement a) refl) (λ t12.
       let none : Unknown ≡ Known r = rw (t1, t2, t3, t4, t5, t6, t7, t8, t9, t10, t11, t12) at known in
-      absurd (unknown none)))))))))))))
-    where
-      isUnknown : Row → Bool
-      isUnknown (Known q) = false
-      isUnknown Unknown = true
-
-      unknown : Unknown ≡ Known r → ⊥
-      unknown e = true≢false (ap isUnknown e)
+      absurd (true≢false (sym (ap isKnown none)))))))))))))))
 
 -- ---- sorts by kind
 -- Kinds 1 to 8 are arithmetic; 16 to 19 are logical.

@@ -1,6 +1,5 @@
 pub mod Rows
 pub mod KindNumbers
-pub mod OperandsMet
 pub mod Walk
 pub mod Arrays
 pub mod Sorting

@@ -1,6 +1,6 @@
 -- What it is that no record's operands are unmet: each is an earlier record of the sort that is asked. Assumes nothing.
 use mathlib.Core.Path.{_≡_, refl, sym, ap, _∙_}
-use mathlib.Core.Bool.{true, _&&_, and-eq-true-iff}
+use mathlib.Core.Bool.{true, false, _&&_, and-eq-true-iff}
 use mathlib.Core.List.{List, [], _∷_, _++_, map, append-assoc, append-nil}
 use Prim.Native.Nat.{ℕ, zero, suc, _+_, _<_, _≤_}
 use native.Mathlib.Omega.{arith}
@@ -125,6 +125,23 @@ module _ (rs : List Record) where
 
   pub all-operands : ((i : ℕ) (h : i < length rs) → Operands rs i h) → firstUnmet [] rs ≡ length rs
   all-operands o = met-all [] rs (λ i h. operands-met rs i h (o i h)) ∙ omega arith
+
+-- the first whose operands are not met is named
+first-from : (done before : List Record) (r : Record) (after : List Record) → firstUnmet (map sortOf done) before ≡ length done + length before
+    → isMet (map sortOf (done ++ before)) r ≡ false → firstUnmet (map sortOf done) (before ++ r ∷ after) ≡ length done + length before
+unfolding firstUnmet
+first-from done [] r after e h = rw (rw (append-nil done) at h) (length-map done sortOf ∙ omega arith)
+first-from done (q ∷ before) r after e h =
+    by-test (isMet (map sortOf done) q)
+    (λ t.
+    let one : length (done ++ q ∷ []) ≡ length done + 1 = length-append done (q ∷ []) in
+    let rest : firstUnmet (map sortOf (done ++ q ∷ [])) before ≡ length (done ++ q ∷ []) + length before = rw (map-append done q) (rw t at e ∙ omega (arith, one)) in
+    let on = first-from (done ++ q ∷ []) before r after rest (rw (append-assoc done (q ∷ []) before) h) in
+    rw t (rw (map-append done q) at on ∙ omega (arith, one)))
+    (λ t. let z : length (map sortOf done) ≡ length done + suc (length before) = rw t at e in absurd (omega (arith, z, length-map done sortOf)))
+
+pub first-unmet : (before : List Record) (r : Record) (after : List Record) → firstUnmet [] before ≡ length before → isMet (map sortOf before) r ≡ false → firstUnmet [] (before ++ r ∷ after) ≡ length before
+first-unmet before r after e h = first-from [] before r after (e ∙ omega arith) h ∙ omega arith
 
 -- the first that is unmet is among the records, or there is none
 pub unmet-most : (sorts : List Sort) (rs : List Record) → firstUnmet sorts rs ≤ length sorts + length rs

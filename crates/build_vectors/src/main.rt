@@ -6,9 +6,9 @@ ghost use Rattle.io.specs.Counts.{Counts};
 const FILLED: u8 = 170;
 
 fn main() {
-    let mut input = [0u8; 8192];
+    let mut input = [0u8; 65536];
     let n = io::read_full(0, &mut input);
-    let mut vector = [0u8; 64];
+    let mut vector = [0u8; 640];
     let mut at = 0;
     while at < n {
         let line = vectors::read_line(&input[..n], at, &mut vector);
@@ -25,7 +25,7 @@ fn build_from(s: &[u8]) {
     let mut filled = [FILLED; 256];
     let out: &mut [u8] = &mut filled;
     let room = room_of(s[14], out);
-    let reply = build::build(
+    let reply = zone::zone_build(
         &s[15..],
         bigendian::i32_at(s, 0),
         bigendian::i32_at(s, 4),
@@ -34,7 +34,7 @@ fn build_from(s: &[u8]) {
         s[13],
         &mut out[..room],
     );
-    answer(reply.code(), reply.number(), out);
+    answer(reply.code, reply.number, out);
 }
 
 // How many bytes of the buffer are lent: as many as b says, since the buffer has 256.
@@ -45,9 +45,9 @@ fn room_of(b: u8, buffer: &[u8]) -> usize
 }
 
 // Writes the rest of a line; only the bytes of a map may differ from what the buffer was filled with.
-fn answer(code: u32, number: usize, out: &[u8]) {
+fn answer(code: u32, number: u64, out: &[u8]) {
     vectors::answer(code, number);
-    let size = if code == 0 { number } else { 0 };
+    let size = if code == 0 { number as usize } else { 0 };
     if held(out, size) {
         let _kept = io::write_all(1, b" kept\n");
     } else {

@@ -1,7 +1,7 @@
 // Runs looking up over the vectors of standard input, and writes code and number.
 
 fn main() {
-    let mut input = [0u8; 65536];
+    let mut input = [0u8; 131072];
     let n = io::read_full(0, &mut input);
     let mut vector = [0u8; 640];
     let mut at = 0;
@@ -21,13 +21,13 @@ fn look_up_from(s: &[u8]) {
     if end > s.len() {
         return;
     }
-    let reply = lookup::lookup(
+    let reply = zone::zone_lookup(
         &s[14..end],
         &s[end..],
         bigendian::i32_at(s, 0),
         bigendian::i32_at(s, 4),
         bigendian::i32_at(s, 8),
     );
-    vectors::answer(reply.code(), reply.number());
+    vectors::answer(reply.code, reply.number);
     let _end = io::write_all(1, b"\n");
 }

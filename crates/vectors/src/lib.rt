@@ -1,4 +1,5 @@
 // Test lines: a label, a colon, the bytes of a vector in hexadecimal with spaces where they help the eye, and a line feed.
+// A heading has no colon, so that it is written as part of the label after it.
 
 ghost use Prim.Native.Nat.{_≤_, _<_};
 ghost use lib.ListN.{length};
@@ -18,9 +19,7 @@ pub fn read_line(input: &[u8], at: usize, vector: &mut [u8]) -> Line
 {
     let digits = past(input, at + 1, b':');
     let _label = io::write_all(1, &input[at..digits]);
-    let next = past(input, digits, b'\n');
-    let size = put_bytes(&input[digits..next], vector);
-    Line { next, size }
+    put_bytes(input, digits, vector)
 }
 
 // The first place from `from` on that comes right after a byte `mark`; the end of the input where there is none.
@@ -36,16 +35,19 @@ fn past(input: &[u8], from: usize, mark: u8) -> usize
     end
 }
 
-// Puts the bytes of the digits at the start of `vector`, without those that it has no room for, and answers how many they are.
+// Puts the bytes of the digits from `from` to the end of the line at the start of `vector`, without those that it has no room for.
 // A line with no line feed was cut off by the end of the input, so it has none.
-fn put_bytes(digits: &[u8], vector: &mut [u8]) -> usize
-    ensures { λ r. ⌜ Counts r (now (vector .exit)) ⌝ }
+fn put_bytes(input: &[u8], from: usize, vector: &mut [u8]) -> Line
+    requires { ⌜ from ≤ length (now input) ⌝ }
+    ensures { λ r. ⌜ from ≤ r .next ⌝ }
+    ensures { λ r. ⌜ Counts (r .size) (now (vector .exit)) ⌝ }
 {
     let mut n = 0;
-    for i in 0..digits.len() {
-        let c = digits[i];
+    for i in from..input.len() {
+        let c = input[i];
         if c == b'\n' {
-            return n / 2;
+            let next = i + 1;
+            return Line { next, size: n / 2 };
         }
         let to = n / 2;
         if c != b' ' && to < vector.len() {
@@ -53,7 +55,10 @@ fn put_bytes(digits: &[u8], vector: &mut [u8]) -> usize
             n += 1;
         }
     }
-    0
+    Line {
+        next: input.len(),
+        size: 0,
+    }
 }
 
 // The byte whose digits are the second of b, and c. A letter is at least 64, and its last four bits are 9 below its worth.
@@ -62,9 +67,9 @@ fn joined(b: u8, c: u8) -> u8 {
 }
 
 // Writes a space, the code, a space and the number. The program ends the line, since some have more to say.
-pub fn answer(code: u32, number: usize) {
+pub fn answer(code: u32, number: u64) {
     let _space = io::write_all(1, b" ");
     let _code = io::print_decimal(1, code as u64);
     let _also = io::write_all(1, b" ");
-    let _number = io::print_decimal(1, number as u64);
+    let _number = io::print_decimal(1, number);
 }

@@ -7,7 +7,7 @@ use Rattle.build_vectors.proofs.main.Statement.{statement}
 use Rattle.build_vectors.proofs.main.Tie as tie
 
 abbrev Inv-loop : tie.InvT-loop
-Inv-loop input n vector₀ at₀ vector at = length vector ≡ 64
+Inv-loop input n vector₀ at₀ vector at = length vector ≡ 640
 
 abbrev μ-loop : tie.MeasureT-loop
 μ-loop input n vector₀ at₀ vector at = n - at

@@ -10,16 +10,19 @@ use Rattle.vectors.proofs.put_bytes.Statement.{statement}
 use Rattle.vectors.proofs.put_bytes.Tie as tie
 
 abbrev Inv-loop : tie.InvT-loop
-Inv-loop digits vector₀ n₀ i₀ i-end vector n i = (i ≤ i-end) × (n ≤ 2 * length vector) × (length vector ≡ length vector₀)
+Inv-loop input from vector₀ n₀ i₀ i-end vector n i = (from ≤ i) × (i ≤ i-end) × (n ≤ 2 * length vector) × (length vector ≡ length vector₀)
 
 abbrev μ-loop : tie.MeasureT-loop
-μ-loop digits vector₀ n₀ i₀ i-end vector n i = i-end - i
+μ-loop input from vector₀ n₀ i₀ i-end vector n i = i-end - i
 
 loop-holds : tie.Need-loop-holds Inv-loop μ-loop
 loop-holds c = search needs
 
 shared-slice-read-c : tie.Need-shared-slice-read-c Inv-loop μ-loop
 shared-slice-read-c c = search needs
+
+add-next : tie.Need-add-next Inv-loop μ-loop
+add-next c = search needs
 
 same-length : tie.Need-same-length Inv-loop μ-loop
 same-length c = search needs
@@ -67,6 +70,7 @@ put-bytes-spec =
     μ-loop
     loop-holds
     shared-slice-read-c
+    add-next
     same-length
     returns
     slice-read-joined

@@ -4,5 +4,4 @@ pub mod Count
 pub mod Stores
 pub mod Outcomes
 pub mod Rows
-pub mod Substitutes
 pub mod Answers

@@ -5,7 +5,7 @@ use mathlib.Core.List.{List, [], _∷_, _++_}
 use Prim.Native.Nat.{ℕ, _-_}
 use native.Mathlib.Omega.{arith}
 use lib.IntN.{pos}
-use lib.ListN.{length, getD, replicate, length-append}
+use lib.ListN.{length, getD, length-append}
 use Rattle.bigendian.specs.Numbers.{bytesOf, unsigned32}
 use lib.Signed.{leZ, ltZ}
 use Rattle.integers.proofs.Order.{by-test}
@@ -29,11 +29,10 @@ use Rattle.colour.specs.Entries.{Entry, blank, entryOf, entries, beforePast, pa
 use Rattle.zonemap.specs.declared.Leaf.{Leaf}
 use Rattle.zonemap.specs.Map.{leafBytes, leavesBytes, cornerBytes, headerOf, mapOf}
 use Rattle.zonemap.specs.StepRoom.{stepRoot, stepMap}
-use Rattle.build.specs.declared.Reply.the-variants.{Done, Short}
 use Rattle.build.specs.Tree.{upto, visit}
 use Rattle.build.specs.Solid.{solidState, isGray, leafOf, leavesBelow, pastsOf}
 use Rattle.build.proofs.Cubes.{leaves-flat}
-use Rattle.build.specs.Build.{outcome, builtMap, storedOf, overRootOf, buildOf}
+use Rattle.build.specs.Build.{builtMap, storedOf, overRootOf, buildOf}
 
 abbrev leaf : ℕ → ℕ → ℕ → Leaf
 leaf level class face = record { level = level; class = class; face = face }
@@ -89,16 +88,6 @@ build-0 out = step-build 0 plain-0 out ∙ ap (λ (ls : List Leaf). storedOf (ma
 -- S at d 1: the 43 bytes above
 pub build-1 : (out : List ℕ) → buildOf stepSheet (stepRoot 1) out ≡ storedOf stepMap out
 build-1 out = step-build 1 plain-1 out ∙ ap (λ (m : List ℕ). storedOf m out) map-1
-
--- a 42-byte buffer gives 8 with 43
-pub short-1 : buildOf stepSheet (stepRoot 1) (replicate 42 0) ≡ outcome (Short 43) (replicate 42 0)
-unfolding storedOf
-short-1 = build-1 (replicate 42 0)
-
--- and one of 43 bytes is the map
-pub fits-1 : buildOf stepSheet (stepRoot 1) (replicate 43 0) ≡ outcome (Done 43) stepMap
-unfolding storedOf
-fits-1 = build-1 (replicate 43 0)
 
 -- S at d 2: 85 bytes
 pub build-2 : (out : List ℕ) → buildOf stepSheet (stepRoot 2) out ≡ storedOf (builtMap stepRecords (stepRoot 2)) out

@@ -30,11 +30,11 @@ use Rattle.demands.proofs.Outcomes.{made}
 
 -- a map of n bytes is stored where it has room, and refused where it has none
 module _ (sheet : List ℕ) (root : Root) (map out : List ℕ) (n : ℕ) (e : buildOf sheet root out ≡ storedOf map out) (size : length map ≡ n) where
-  stores : n ≤ length out → zoneBuildOf sheet root out ≡ zoneOutcome (reply 0 n) (map ++ drop n out)
+  pub stores : n ≤ length out → zoneBuildOf sheet root out ≡ zoneOutcome (reply 0 n) (map ++ drop n out)
   unfolding zoneBuildOf storedOf
   stores h = ap builtByNumber e ∙ rw (size, le-ltb (length out) n h)
 
-  refuses : length out < n → zoneBuildOf sheet root out ≡ zoneOutcome (reply 8 n) out
+  pub refuses : length out < n → zoneBuildOf sheet root out ≡ zoneOutcome (reply 8 n) out
   unfolding zoneBuildOf storedOf
   refuses h = ap builtByNumber e ∙ rw (size, lt-ltb (length out) n h)
 

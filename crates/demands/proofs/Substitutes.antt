@@ -1,13 +1,73 @@
--- Why demand 3 needs demand 2 beside it: a gray leaf agrees with every point, so that a program which calls cubes gray keeps demand 3. Assumes nothing.
-use mathlib.Core.Path.{_≡_}
-use mathlib.Core.List.{List}
+-- Wrong programs that the contract of `zone_build` shuts out, each on the step room at depth 1: what they would answer is not what the contract says. And why demand
+-- 3 needs demand 2 beside it. Assumes nothing.
+use mathlib.Core.Path.{_≡_, refl, sym, ap, _∙_}
+use mathlib.Core.List.{List, [], _∷_, _++_}
+use Prim.Native.Nat.{ℕ}
 use native.Mathlib.Omega.{arith}
+use lib.ListN.{getD, drop, replicate}
+use Rattle.bigendian.specs.Numbers.{bytesOf, unsigned32}
 use Rattle.sheet.specs.declared.Record.{Record}
+use Rattle.sheet.specs.StepRoom.{stepSheet}
 use Rattle.meaning.specs.Fractions.{FractionalPoint}
 use Rattle.zonemap.specs.declared.Leaf.{Leaf}
+use Rattle.zonemap.specs.Map.{leafBytes, leavesBytes, cornerBytes, headerOf, mapOf}
+use Rattle.zonemap.specs.StepRoom.{stepRoot, stepMap}
+use Rattle.build.proofs.Rows.{build-1}
+use Rattle.zone.specs.declared.ZoneReply.{ZoneReply}
+use Rattle.zone.specs.Replies.{reply, ZoneOutcome, zoneOutcome, zoneBuildOf}
 use Rattle.demands.specs.Demands.{Agrees}
+use Rattle.demands.proofs.Rows.{stores, refuses}
 
--- Only the equation of the map shuts such a program out: `not-one-gray-leaf` and `not-all-gray-below` of crates/build/proofs/Substitutes.
+-- a buffer of 43 bytes holds the map, one of 42 does not
+abbrev room : List ℕ
+room = replicate 43 0
+
+abbrev short : List ℕ
+short = replicate 42 0
+
+module _ (r : ZoneReply) (out : List ℕ) (e : zoneOutcome r out ≡ zoneBuildOf stepSheet (stepRoot 1) room) where
+  told : zoneOutcome r out ≡ zoneOutcome (reply 0 43) stepMap
+  told = e ∙ stores stepSheet (stepRoot 1) stepMap room 43 (build-1 room) refl (omega arith)
+
+  -- one that refuses always
+  pub not-always-refused : r .code ≡ 0
+  not-always-refused = ap (λ (o : ZoneOutcome). o .reply .code) told
+
+  -- one that invents the length in reply 0
+  pub no-other-length : r .number ≡ 43
+  no-other-length = ap (λ (o : ZoneOutcome). o .reply .number) told
+
+  pub no-other-bytes : out ≡ stepMap
+  no-other-bytes = ap (λ (o : ZoneOutcome). o .buffer) told
+
+  -- one that never writes
+  pub not-unwritten : out ≡ room → ⊥
+  not-unwritten h = let z : _≡_ {A = ℕ} 0 39 = ap (λ (b : List ℕ). getD b 3 0) (sym h ∙ no-other-bytes) in absurd (omega arith)
+
+  -- one that answers one gray leaf for all sheets
+  pub not-one-gray-leaf : (rest : List ℕ) → out ≡ mapOf (stepRoot 1) (record { level = 0; class = 4; face = 0 } ∷ []) ++ rest → ⊥
+  unfolding mapOf headerOf cornerBytes bytesOf unsigned32 leavesBytes leafBytes
+  not-one-gray-leaf rest h = let z : _≡_ {A = ℕ} 18 39 = ap (λ (b : List ℕ). getD b 3 0) (sym h ∙ no-other-bytes) in absurd (omega arith)
+
+  -- one that colours the root honestly and calls all below it gray
+  pub not-all-gray-below : (ls : List Leaf) → out ≡ mapOf (stepRoot 1) (record { level = 1; class = 4; face = 0 } ∷ ls) → ⊥
+  unfolding mapOf headerOf cornerBytes bytesOf unsigned32 leavesBytes leafBytes
+  not-all-gray-below ls h = let z : _≡_ {A = ℕ} 4 1 = ap (λ (b : List ℕ). getD b 20 0) (sym h ∙ no-other-bytes) in absurd (omega arith)
+
+module _ (r : ZoneReply) (out : List ℕ) (e : zoneOutcome r out ≡ zoneBuildOf stepSheet (stepRoot 1) short) where
+  told-short : zoneOutcome r out ≡ zoneOutcome (reply 8 43) short
+  told-short = e ∙ refuses stepSheet (stepRoot 1) stepMap short 43 (build-1 short) refl (omega arith)
+
+  -- one that invents the length in reply 8
+  pub no-other-need : r ≡ reply 8 43
+  no-other-need = ap (λ (o : ZoneOutcome). o .reply) told-short
+
+  -- one that writes before it refuses
+  pub not-written : out ≡ short
+  not-written = ap (λ (o : ZoneOutcome). o .buffer) told-short
+
+-- ---- demand 3 alone
+-- A gray leaf agrees with every point, so that a program which calls cubes gray keeps demand 3. Only the equation of the map shuts it out, as above.
 gray-agrees : (rs : List Record) (leaf : Leaf) (p : FractionalPoint) → leaf .class ≡ 4 → Agrees rs leaf p
 gray-agrees rs leaf p e = record {
   white = λ h. absurd (omega arith);

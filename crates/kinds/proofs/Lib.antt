@@ -1,3 +1,4 @@
 pub mod ByKind
+pub mod FaceKind
 pub mod Marks
 pub mod Listed

@@ -1,8 +1,8 @@
 -- The limits of root and depth by their numbers, each on a line: a root is in limits where all hold, and nowhere else. Assumes nothing.
 use mathlib.Core.Path.{_≡_}
-use mathlib.Core.Bool.{true}
+use mathlib.Core.Bool.{true, false}
 use borrow.Author.Tests.{le-leb}
-use Rattle.integers.proofs.Order.{le-test}
+use Rattle.integers.proofs.Order.{le-test, by-test}
 use Rattle.cube.specs.declared.Root.{Root}
 use Rattle.cube.specs.Limits.{axisFits, sizesFit, inLimits, WithinLimits}
 use Rattle.cube.proofs.Limits.{limits-sizes, limits-x, limits-y, limits-z}
@@ -33,3 +33,6 @@ limits-within r w = rw (
   le-test _ _ (w .z-least),
   le-test _ _ (w .z-most),
 )
+
+pub out-of-limits : (r : Root) → (WithinLimits r → ⊥) → inLimits r ≡ false
+out-of-limits r h = by-test (inLimits r) (λ t. absurd (h (within-limits r t))) (λ t. t)

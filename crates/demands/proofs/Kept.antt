@@ -2,7 +2,7 @@
 use Rattle.demands.specs.Demands.{Demands, Demand1, Demand2, Demand3}
 use Rattle.demands.specs.Table.{Table}
 use Rattle.demands.proofs.Sheets.{checks, sheet-rows}
-use Rattle.demands.proofs.Opening.{opens, open-row}
+use Rattle.demands.proofs.Opening.{opens, faults, open-row}
 use Rattle.demands.proofs.Outcomes.{one-reply, one-outcome, builds, build-refused, unchanged, build-rows}
 use Rattle.demands.proofs.Maps.{can-look-up, the-map}
 use Rattle.demands.proofs.Soundness.{agrees, no-touch}
@@ -14,6 +14,7 @@ table : Table
 table = record {
   sheets = sheet-rows;
   builds = λ sheet good root before. build-rows sheet root before good;
+  faults = faults;
   opens = open-row;
   lookups = λ sheet good map p. lookup-rows sheet map p good;
 }

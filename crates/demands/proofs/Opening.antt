@@ -10,18 +10,19 @@ use lib.ListN.{length, getD}
 use Rattle.bigendian.specs.Numbers.{unsignedAt}
 use Rattle.integers.proofs.First.{none-first}
 use Rattle.integers.proofs.Order.{by-test}
-use Rattle.cube.specs.Limits.{inLimits}
-use Rattle.cube.proofs.Numbers.{within-limits, limits-within}
+use Rattle.cube.specs.Limits.{inLimits, WithinLimits}
+use Rattle.cube.proofs.Numbers.{within-limits, limits-within, out-of-limits}
 use Rattle.zonemap.specs.declared.Leaf.{Leaf}
 use Rattle.zonemap.specs.declared.Opened.{Opened}
 use Rattle.zonemap.specs.declared.Opened.the-variants.{Good, Bad}
 use Rattle.zonemap.specs.Map.{mapVersion}
 use Rattle.zonemap.specs.Opening.{lengthGood, rootOf, leavesOf, sizeOf, levelGood, faceGood, placeGood, leafGood, leavesFault, headerFault, faultOf, anyFace, openOf}
 use Rattle.zonemap.specs.Leaves.{placeAt}
-use Rattle.zonemap.proofs.Runs.{Fine, run-at, run-end, at-run, opens-run, run-opens, one-fault}
+use Rattle.zonemap.proofs.Runs.{Fine, run-at, run-end, at-run, opens-run, leaf-fault, end-fault, run-opens, one-fault}
 use Rattle.zonemap.proofs.Found.{leaves-count, opens-parts}
 use Rattle.zone.specs.Replies.{reply, openedByNumber, zoneOpenOf}
 use Rattle.demands.specs.Terms.{DoneWhere, nthLeaf, nthPlace, GoodLeaf, Opens}
+use Rattle.demands.specs.Table.{Faults}
 
 -- ---- one leaf
 module _ (d : ℕ) (l : Leaf) where
@@ -144,6 +145,39 @@ module _ (named : ℕ → Bool) (map : List ℕ) where
   opens-fault o =
       let run = at-run (Fine named d) d 0 (8 ^ d) (leavesOf map) (λ i among. let z : 0 + nthPlace map i ≡ nthPlace map i = omega arith in rw z (leaf-good named map i (o .good i among))) (omega (arith, o .whole)) in
       rw (length-good map (o .agrees) (o .leaves), o .version, limits-within (rootOf map) (o .limits)) (run-opens named d 0 19 (leavesOf map) run)
+
+  -- ---- the first fault
+  module _ (agrees : lengthGood map ≡ true) (version : getD map 4 0 ≡ 1) (limits : WithinLimits (rootOf map)) where
+    in-leaves : faultOf named map ≡ leavesFault named d 0 19 (leavesOf map)
+    unfolding faultOf headerFault
+    in-leaves = rw (agrees, version, limits-within (rootOf map) limits)
+
+    fine-at : (i : ℕ) → GoodLeaf named map i → Fine named d (0 + nthPlace map i) (nthLeaf map i)
+    fine-at i g = let z : 0 + nthPlace map i ≡ nthPlace map i = omega arith in rw z (leaf-good named map i g)
+
+    at-leaf : (i : ℕ) → i < length (leavesOf map) → ((j : ℕ) → j < i → GoodLeaf named map j) → (GoodLeaf named map i → ⊥) → faultOf named map ≡ (19 + 3 * i) ∷ []
+    at-leaf i among good bad =
+        let z : 0 + nthPlace map i ≡ nthPlace map i = omega arith in
+        let not-fine : leafGood named d (0 + nthPlace map i) (nthLeaf map i) ≡ false = by-test (leafGood named d (0 + nthPlace map i) (nthLeaf map i)) (λ t. absurd (bad (leaf-told named map i (rw z at t)))) (λ t. t) in
+        in-leaves ∙ leaf-fault named d 0 19 i (leavesOf map) among (λ j h. fine-at j (good j h)) not-fine
+
+    at-end : ((i : ℕ) → i < length (leavesOf map) → GoodLeaf named map i) → (nthPlace map (length (leavesOf map)) ≡ 8 ^ d → ⊥) → faultOf named map ≡ length map ∷ []
+    at-end good short =
+        let n : ℕ = nthPlace map (length (leavesOf map)) in
+        let run = at-run (Fine named d) d 0 n (leavesOf map) (λ i among. fine-at i (good i among)) (omega arith) in
+        let l = length-told map agrees in
+        let end : 19 + 3 * length (leavesOf map) ≡ length map = omega (arith, l .0, l .1) in
+        in-leaves ∙ end-fault named d 0 19 n (leavesOf map) run short ∙ ap (λ (k : ℕ). k ∷ []) end
+
+  pub faults : Faults named map
+  unfolding faultOf headerFault
+  faults = record {
+    at-0 = λ fails. rw fails;
+    at-4 = λ agrees other. rw (agrees, ne-eqb (getD map 4 0) mapVersion other);
+    at-5 = λ agrees version out. rw (agrees, version, out-of-limits (rootOf map) out);
+    at-leaf = at-leaf;
+    at-end = at-end;
+  }
 
 -- a map that opens with some faces opens with any
 any-leaf : (named : ℕ → Bool) (map : List ℕ) (i : ℕ) → GoodLeaf named map i → GoodLeaf anyFace map i

@@ -15,9 +15,9 @@ use Rattle.sheet.specs.declared.Checked.the-variants.{Good, Refused}
 use Rattle.sheet.specs.Records.{recordsOf}
 use Rattle.sheet.specs.Check.{checkOf}
 use Rattle.cube.specs.declared.Root.{Root}
-use Rattle.cube.specs.Limits.{inLimits, WithinLimits}
+use Rattle.cube.specs.Limits.{inLimits}
 use Rattle.cube.specs.Cubes.{rootCube}
-use Rattle.cube.proofs.Numbers.{within-limits, limits-within}
+use Rattle.cube.proofs.Numbers.{within-limits, limits-within, out-of-limits}
 use Rattle.colour.specs.Entries.{pastOf}
 use Rattle.colour.proofs.Smaller.{none-keep, keep-none}
 use Rattle.build.specs.declared.Reply.{Reply}
@@ -119,13 +119,10 @@ module _ (sheet : List ℕ) (root : Root) (before : List ℕ) where
         };
   }
 
-  out-of-limits : (WithinLimits root → ⊥) → inLimits root ≡ false
-  out-of-limits h = by-test (inLimits root) (λ t. absurd (h (within-limits root t))) (λ t. t)
-
   pub build-rows : (good : GoodSheet sheet) → BuildRows sheet good root before
   unfolding zoneBuildOf buildOf overRootOf storedOf
   build-rows good = record {
-    row-6 = λ out. rw (good-check sheet good, out-of-limits out);
+    row-6 = λ out. rw (good-check sheet good, out-of-limits root out);
     row-7 = λ within n past. rw (good-check sheet good, limits-within root within, past);
     row-11 = λ within bounded n rest past. rw (good-check sheet good, limits-within root within, keep-none rs (rootCube root) bounded, past);
     row-8 = λ within bounded below short. rw (good-check sheet good, limits-within root within, keep-none rs (rootCube root) bounded, below, lt-ltb _ _ short);

@@ -1,9 +1,9 @@
 -- Document 01's table of replies, in order of test: the code and the number of each refusal, where its row is the first that refuses. Replies 1 to 5 are
 -- those of zone_check; the other calls give the same of a sheet that it refuses. Assumes nothing: these are statements.
 use mathlib.Core.Path.{_≡_}
-use mathlib.Core.Bool.{true, false}
+use mathlib.Core.Bool.{Bool, true, false}
 use mathlib.Core.List.{List, [], _∷_}
-use Prim.Native.Nat.{ℕ, _≤_, _<_}
+use Prim.Native.Nat.{ℕ, _+_, _*_, _^_, _≤_, _<_}
 use lib.ListN.{length, getD}
 use Rattle.sheet.specs.declared.Sort.the-variants.{Logical}
 use Rattle.sheet.specs.Records.{recordsOf, stopOf}
@@ -16,11 +16,11 @@ use Rattle.cube.specs.Limits.{WithinLimits}
 use Rattle.cube.specs.Cubes.{rootCube}
 use Rattle.cube.specs.Points.{InRoot}
 use Rattle.colour.specs.Entries.{pastOf}
-use Rattle.zonemap.specs.Opening.{rootOf, faultOf, anyFace}
+use Rattle.zonemap.specs.Opening.{lengthGood, rootOf, leavesOf, faultOf, anyFace}
 use Rattle.build.specs.Solid.{pastsOf}
 use Rattle.build.specs.Build.{builtMap}
 use Rattle.zone.specs.Replies.{reply, zoneCheckOf, zoneBuildOf, zoneOpenOf, zoneLookupOf}
-use Rattle.demands.specs.Terms.{GoodSheet, Opens, Bounded}
+use Rattle.demands.specs.Terms.{nthPlace, GoodSheet, GoodLeaf, Opens, Bounded}
 
 -- of any sheet
 pub record SheetRows (sheet : List ℕ) : Type 0 where
@@ -59,9 +59,21 @@ pub record LookupRows (sheet : List ℕ) (good : GoodSheet sheet) (map : List �
   -- point not in the root, high planes left out
   pub row-10 : Opens (hasFace (recordsOf sheet)) map → Bounded (recordsOf sheet) (rootCube (rootOf map)) → (InRoot (rootOf map) p → ⊥) → zoneLookupOf sheet map p ≡ reply 10 0
 
+-- the offset of a map's first fault, where `named` says which face numbers a terminal leaf may have: 0 length, 4 version, 5 root or depth, a bad leaf's first
+-- byte, or the map's length if leaves stop short; the first such
+pub record Faults (named : ℕ → Bool) (map : List ℕ) : Type 0 where
+  pub at-0 : lengthGood map ≡ false → faultOf named map ≡ 0 ∷ []
+  pub at-4 : lengthGood map ≡ true → (getD map 4 0 ≡ 1 → ⊥) → faultOf named map ≡ 4 ∷ []
+  pub at-5 : lengthGood map ≡ true → getD map 4 0 ≡ 1 → (WithinLimits (rootOf map) → ⊥) → faultOf named map ≡ 5 ∷ []
+  pub at-leaf : lengthGood map ≡ true → getD map 4 0 ≡ 1 → WithinLimits (rootOf map) → (i : ℕ) → i < length (leavesOf map)
+      → ((j : ℕ) → j < i → GoodLeaf named map j) → (GoodLeaf named map i → ⊥) → faultOf named map ≡ (19 + 3 * i) ∷ []
+  pub at-end : lengthGood map ≡ true → getD map 4 0 ≡ 1 → WithinLimits (rootOf map) → ((i : ℕ) → i < length (leavesOf map) → GoodLeaf named map i)
+      → (nthPlace map (length (leavesOf map)) ≡ 8 ^ rootOf map .d → ⊥) → faultOf named map ≡ length map ∷ []
+
 pub record Table : Type 0 where
   pub sheets : (sheet : List ℕ) → SheetRows sheet
   pub builds : (sheet : List ℕ) (good : GoodSheet sheet) (root : Root) (before : List ℕ) → BuildRows sheet good root before
+  pub faults : (named : ℕ → Bool) (map : List ℕ) → Faults named map
   -- zone_open, without the sheet clause
   pub opens : (map : List ℕ) (at : ℕ) → faultOf anyFace map ≡ at ∷ [] → zoneOpenOf map ≡ reply 9 at
   pub lookups : (sheet : List ℕ) (good : GoodSheet sheet) (map : List ℕ) (p : Point) → LookupRows sheet good map p

@@ -1,10 +1,10 @@
 -- Runs of leaves: a map opens exactly where its leaves run from 0 to 8^d, each good at its own place. Assumes nothing.
-use mathlib.Core.Path.{_≡_}
-use mathlib.Core.Bool.{Bool, true, _&&_, and-eq-true-iff}
+use mathlib.Core.Path.{_≡_, sym, _∙_}
+use mathlib.Core.Bool.{Bool, true, false, _&&_, and-eq-true-iff}
 use mathlib.Core.List.{List, [], _∷_, _++_}
-use Prim.Native.Nat.{ℕ, zero, suc, _+_, _%_, _^_, _≤_, _<_}
+use Prim.Native.Nat.{ℕ, zero, suc, _+_, _*_, _%_, _^_, _≤_, _<_}
 use native.Mathlib.Omega.{arith}
-use borrow.Author.Tests.{leb-true, eqb-true, eq-eqb}
+use borrow.Author.Tests.{leb-true, eqb-true, eq-eqb, ne-eqb}
 use lib.Dec.{eqb, leb}
 use lib.ListN.{length, getD}
 use Rattle.integers.proofs.Order.{by-test}
@@ -93,6 +93,28 @@ module _ (named : ℕ → Bool) (d : ℕ) where
   opens-run p at [] e = by-test (eqb p (8 ^ d)) (λ t. eqb-true p (8 ^ d) t) (λ t. absurd (one-fault at (rw t at e)))
   opens-run p at (l ∷ ls) e =
       by-test (leafGood named d p l) (λ t. (t, opens-run (p + sizeOf d l) (at + 3) ls (rw t at e))) (λ t. absurd (one-fault at (rw t at e)))
+
+  -- the first fault: that of the first leaf which is not good, or the end of leaves that stop short
+  pub leaf-fault : (p at i : ℕ) (ls : List Leaf) → i < length ls → ((j : ℕ) → j < i → Fine named d (p + placeAt d j ls) (getD ls j nowhere)) → leafGood named d (p + placeAt d i ls) (getD ls i nowhere) ≡ false
+      → leavesFault named d p at ls ≡ (at + 3 * i) ∷ []
+  unfolding leavesFault placeAt
+  leaf-fault p at i [] h good bad = absurd (omega arith)
+  leaf-fault p at zero (l ∷ ls) h good bad =
+      let z : p + 0 ≡ p = omega arith in
+      let end : at + 3 * 0 ≡ at = omega arith in
+      rw (rw z at bad, end)
+  leaf-fault p at (suc i) (l ∷ ls) h good bad =
+      let z : p + 0 ≡ p = omega arith in
+      let on : (j : ℕ) → p + (sizeOf d l + placeAt d j ls) ≡ p + sizeOf d l + placeAt d j ls = λ j. omega arith in
+      let end : at + 3 * suc i ≡ at + 3 + 3 * i = omega arith in
+      rw (rw z at (good 0 (omega arith)), end) (leaf-fault (p + sizeOf d l) (at + 3) i ls (omega arith) (λ j k. rw (on j) at (good (suc j) (omega arith))) (rw (on i) at bad))
+
+  pub end-fault : (p at e : ℕ) (ls : List Leaf) → Run (Fine named d) d p ls e → (e ≡ 8 ^ d → ⊥) → leavesFault named d p at ls ≡ (at + 3 * length ls) ∷ []
+  unfolding Run leavesFault
+  end-fault p at e [] r short = let end : at + 3 * 0 ≡ at = omega arith in rw (ne-eqb p (8 ^ d) (λ z. short (sym r ∙ z)), end)
+  end-fault p at e (l ∷ ls) r short =
+      let end : at + 3 * suc (length ls) ≡ at + 3 + 3 * length ls = omega arith in
+      rw (r .0, end) (end-fault (p + sizeOf d l) (at + 3) e ls (r .1) short)
 
   pub run-opens : (p at : ℕ) (ls : List Leaf) → Run (Fine named d) d p ls (8 ^ d) → leavesFault named d p at ls ≡ []
   unfolding Run leavesFault

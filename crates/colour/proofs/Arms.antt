@@ -25,7 +25,8 @@ use Rattle.cube.specs.Limits.{Near}
 use Rattle.colour.specs.declared.State.{State}
 use Rattle.colour.specs.declared.State.the-variants.{Mixed}
 use Rattle.colour.specs.Bounds.{across, none, boundsOf}
-use Rattle.colour.specs.States.{stateBy, faceState, bothOf, eitherOf, complementOf, stateOf}
+use Rattle.colour.specs.States.{faceState, bothOf, eitherOf, complementOf, stateOf}
+use Rattle.colour.specs.Held.{stateBy}
 use Rattle.colour.specs.Held.{Held, heldAt}
 
 -- an interval whose ends are within the limit passes it

@@ -1,7 +1,6 @@
 -- Colour of a cube: the state of one logical record, and the class and face of a state. Assumes nothing: these are definitions.
 use Prim.Native.Nat.{ℕ}
 use mathlib.Core.Bool.{Bool, true, false, cond, _||_}
-use lib.Dec.{eqb}
 use lib.IntN.{pos}
 use lib.Signed.{leZ, ltZ}
 use Rattle.interval.specs.declared.Interval.{Interval}
@@ -74,7 +73,3 @@ faceOf In = 0
 faceOf (Single f) = f
 faceOf (Comp f) = f
 faceOf Mixed = 0
-
--- the state of a class and a face number
-unfoldable pub stateBy : ℕ → ℕ → State
-stateBy class face = cond (eqb class 0) Out (cond (eqb class 1) In (cond (eqb class 2) (Single face) (cond (eqb class 3) (Comp face) Mixed)))

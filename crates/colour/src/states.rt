@@ -2,7 +2,8 @@
 
 ghost use mathlib.Core.Path.{_≡_};
 ghost use lib.ListN.{length, getD};
-ghost use Rattle.colour.specs.States.{isIn, isOut, stateBy, faceState, complementOf, bothOf, eitherOf, classOf, faceOf};
+ghost use Rattle.colour.specs.States.{isIn, isOut, faceState, complementOf, bothOf, eitherOf, classOf, faceOf};
+ghost use Rattle.colour.specs.Held.{stateBy};
 use crate::State;
 use interval::Interval;
 

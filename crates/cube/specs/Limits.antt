@@ -30,7 +30,7 @@ pub record WithinLimits (r : Root) : Type 0 where
   pub y-most : (r .y +ℤ pos (2 ^ r .k)) ≤ℤ pos (2 ^ 20)
   pub z-most : (r .z +ℤ pos (2 ^ r .k)) ≤ℤ pos (2 ^ 20)
 
--- a cube so near to the origin, with so many levels below it, that no sum over it wraps
+-- (Only inner contracts cite this.) A cube so near to the origin, with so many levels below it, that no sum over it wraps
 pub record Near (left : ℕ) (q : Cube) : Type 0 where
   pub x : natAbs (q .x) + q .side ≤ 2 ^ 21
   pub y : natAbs (q .y) + q .side ≤ 2 ^ 21

@@ -40,7 +40,7 @@ stepsTo r low v = natAbs (v -ℤ low) / 2 ^ (r .k - r .d)
 unfoldable pub placeOf : Root → Point → ℕ
 placeOf r p = placeBy (r .d) (stepsTo r (r .x) (p .x)) (stepsTo r (r .y) (p .y)) (stepsTo r (r .z) (p .z))
 
--- a closed cube lies in another: on each axis both of its planes do
+-- (Only laws cite this.) A closed cube lies in another: on each axis both of its planes do
 pub record CubeInside (q outer : Cube) : Type 0 where
   pub x-low : outer .x ≤ℤ q .x
   pub x-high : (q .x +ℤ pos (q .side)) ≤ℤ (outer .x +ℤ pos (outer .side))

@@ -13,7 +13,8 @@ use Rattle.meaning.specs.Fractions.{FractionalPoint, InClosed}
 use Rattle.meaning.specs.Truth.{holdsAt, inSolid}
 use Rattle.zonemap.specs.Opening.{faceGood}
 use Rattle.colour.specs.declared.State.{State}
-use Rattle.colour.specs.States.{classOf, faceOf, stateBy}
+use Rattle.colour.specs.States.{classOf, faceOf}
+use Rattle.colour.specs.Held.{stateBy}
 use Rattle.colour.proofs.Filling.{back-again}
 use Rattle.soundness.specs.Claims.{Sound}
 use Rattle.soundness.proofs.StatesSound.{states-sound}

@@ -13,7 +13,8 @@ use Rattle.integers.proofs.Naturals.{ints, abs-is, abs-+, abs-minus}
 use Rattle.integers.proofs.Order.{by-test}
 use Rattle.integers.proofs.Machine.{fits, back, result-fits, result-back}
 use Rattle.interval.specs.Rules.{from}
-use Rattle.interval.specs.Limit.{isSmall, isWithin, boundedOf, clampOf}
+use Rattle.interval.specs.Limit.{isSmall, isWithin, boundedOf}
+use Rattle.interval.specs.Inner.{clampOf}
 
 -- ---- the test of a number
 pub small-true : (z : ℤ) → isSmall z ≡ true → natAbs z ≤ 2 ^ 60

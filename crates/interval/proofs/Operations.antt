@@ -10,7 +10,8 @@ use Rattle.integers.specs.Least.{greaterOf, leastOf, greatestOf}
 use Rattle.integers.proofs.Least.{greater-kept, least-kept, greatest-kept}
 use Rattle.integers.proofs.Machine.{again}
 use Rattle.interval.specs.Rules.{from, span, sum, difference, product, square}
-use Rattle.interval.specs.Limit.{SmallEnds, isSmall, boundedOf, clampOf}
+use Rattle.interval.specs.Limit.{SmallEnds, isSmall, boundedOf}
+use Rattle.interval.specs.Inner.{clampOf}
 use Rattle.interval.specs.declared.Interval.{Interval}
 use Rattle.interval.specs.declared.Bounded.{Bounded}
 use Rattle.interval.proofs.Limit.{limit-back, sum-back, difference-back, clamp-keeps, bounded-clamped}

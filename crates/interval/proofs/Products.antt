@@ -13,7 +13,8 @@ use mir.Val.{SFits, Fits, toZ, ofZ}
 use Rattle.integers.proofs.Naturals.{abs-*, abs-neg}
 use Rattle.integers.proofs.Order.{by-test, negative}
 use Rattle.integers.proofs.Machine.{fits, result-fits, result-back}
-use Rattle.interval.specs.Limit.{isSmall, clampOf}
+use Rattle.interval.specs.Limit.{isSmall}
+use Rattle.interval.specs.Inner.{clampOf}
 use Rattle.interval.proofs.Limit.{small-true, small-false, limit-fits, limit-back, difference-fits, difference-back, clamp-same}
 
 -- ---- magnitude

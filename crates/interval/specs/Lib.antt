@@ -1,3 +1,4 @@
 pub mod Rules
 pub mod Limit
 pub mod Claims
+pub mod Inner

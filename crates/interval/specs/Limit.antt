@@ -1,9 +1,8 @@
 -- The limit: an end lies in -2^60 to 2^60. Assumes nothing: these are definitions.
 use mathlib.Core.Bool.{Bool, cond, _&&_}
-use Prim.Native.Nat.{_+_, _≤_, _^_}
+use Prim.Native.Nat.{_≤_, _^_}
 use lib.Dec.{leb}
-use lib.IntN.{ℤ, pos, negℤ, natAbs}
-use lib.Signed.{nonNeg}
+use lib.IntN.{ℤ, natAbs}
 use Rattle.interval.specs.declared.Interval.{Interval}
 use Rattle.interval.specs.declared.Bounded.{Bounded}
 use Rattle.interval.specs.declared.Bounded.the-variants.{Within, Past}
@@ -24,7 +23,3 @@ boundedOf i = cond (isWithin i) (Within i) Past
 pub record SmallEnds (i : Interval) : Type 0 where
   pub low : natAbs (i .low) ≤ 2 ^ 60
   pub high : natAbs (i .high) ≤ 2 ^ 60
-
--- a number within the limit, and otherwise one past the limit on the number's side
-unfoldable pub clampOf : ℤ → ℤ
-clampOf z = cond (isSmall z) z (cond (nonNeg z) (pos (2 ^ 60 + 1)) (negℤ (pos (2 ^ 60 + 1))))

@@ -6,7 +6,8 @@ ghost use lib.Dec.{leb};
 ghost use lib.IntN.{natAbs, _*ℤ_};
 ghost use Rattle.integers.specs.Least.{lesserOf, greaterOf};
 ghost use Rattle.interval.specs.Rules.{span, sum, difference, product, square};
-ghost use Rattle.interval.specs.Limit.{SmallEnds, isSmall, isWithin, boundedOf, clampOf};
+ghost use Rattle.interval.specs.Limit.{SmallEnds, isSmall, isWithin, boundedOf};
+ghost use Rattle.interval.specs.Inner.{clampOf};
 
 // The limit: the greatest end, the least end, and the greatest magnitude.
 const GREATEST: i64 = 1152921504606846976;

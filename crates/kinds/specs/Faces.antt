@@ -26,6 +26,7 @@ isFace (Complement a) = false
 unfoldable pub hasFace : List Record → ℕ → Bool
 hasFace rs f = isFace (getD rs f X)
 
+-- ---- only inner contracts cite what follows
 -- 1 for a face, 0 for any other record
 abbrev pub markOf : Record → ℕ
 markOf r = cond (isFace r) 1 0

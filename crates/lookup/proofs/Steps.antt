@@ -30,7 +30,8 @@ use Rattle.zonemap.specs.declared.Header.{Header}
 use Rattle.zonemap.specs.declared.Header.the-variants.{Good as GoodHeader, Bad as BadHeader}
 use Rattle.zonemap.specs.declared.Scanned.{Scanned}
 use Rattle.zonemap.specs.declared.Scanned.the-variants.{At, Bad as BadLeaves}
-use Rattle.zonemap.specs.Opening.{rootOf, leafIn, leavesOf, marked, leafAt, offsetAt, leavesFault, headerFault, faultOf}
+use Rattle.zonemap.specs.Opening.{rootOf, leafIn, leavesOf, leafAt, offsetAt, leavesFault, headerFault, faultOf}
+use Rattle.zonemap.specs.Inner.{marked}
 use Rattle.zonemap.proofs.Found.{header-sizes, found-inside, opens-parts, opens-sizes}
 use Rattle.zonemap.proofs.Opens.{header-bad, leaves-good, leaves-bad}
 use Rattle.colour.specs.declared.State.{State}

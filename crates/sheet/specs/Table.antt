@@ -47,12 +47,12 @@ readAt s c =
     (cond (leb (length s) (c .at + getD s (c .at) 0)) (Refused (c .at))
     (onRow (rowAt s (c .at)) (record { at = c .at + 1 + getD s (c .at) 0; left = c .left - 1 }) (c .at)))
 
--- where reading stands after this: past the record, or at the one that is refused
+-- (Only an inner contract cites this.) Where reading stands after this: past the record, or at the one that is refused
 abbrev pub reachedOf : Read → ℕ
 reachedOf (Found r next) = next .at
 reachedOf (Refused at) = at
 
--- a record stands at a place: it runs over no end, and a row fits it
+-- (Only inner contracts cite this.) A record stands at a place: it runs over no end, and a row fits it
 abbrev pub isKnown : Row → Bool
 isKnown (Known r) = true
 isKnown Unknown = false

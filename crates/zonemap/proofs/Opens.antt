@@ -18,7 +18,8 @@ use Rattle.zonemap.specs.declared.Header.the-variants.{Good as GoodHeade
 use Rattle.zonemap.specs.declared.Scanned.{Scanned}
 use Rattle.zonemap.specs.declared.Scanned.the-variants.{At, Bad as BadLeaves}
 use Rattle.zonemap.specs.declared.Opened.the-variants.{Good, Bad}
-use Rattle.zonemap.specs.Opening.{rootOf, leafIn, leavesIn, leavesOf, marked, faceGood, leafGood, sizeOf, leavesFault, headerFault, faultOf, anyFace, openOf}
+use Rattle.zonemap.specs.Opening.{rootOf, leafIn, leavesIn, leavesOf, faceGood, leafGood, sizeOf, leavesFault, headerFault, faultOf, anyFace, openOf}
+use Rattle.zonemap.specs.Inner.{marked}
 use Rattle.zonemap.proofs.Found.{leaves-count, header-sizes}
 
 -- ---- the header's answer

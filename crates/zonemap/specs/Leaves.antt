@@ -15,7 +15,7 @@ placeAt d (suc i) (l ∷ ls) = sizeOf d l + placeAt d i ls
 abbrev pub nowhere : Leaf
 nowhere = record { level = 0; class = 0; face = 0 }
 
--- leaf i holds place m, where the first leaf is at place p
+-- (Only laws cite this.) Leaf i holds place m, where the first leaf is at place p
 pub record Holds (d m p i : ℕ) (ls : List Leaf) : Type 0 where
   pub among : i < length ls
   pub from : p + placeAt d i ls ≤ m

@@ -2,3 +2,4 @@ pub mod Map
 pub mod Opening
 pub mod Leaves
 pub mod StepRoom
+pub mod Inner

@@ -52,10 +52,6 @@ levelGood d l = leb (l .level) d && leb (l .class) 4 && (not (eqb (l .class) 4) 
 unfoldable pub faceGood : (ℕ → Bool) → Leaf → Bool
 faceGood named l = cond (eqb (l .class) 2 || eqb (l .class) 3) (named (l .face)) (eqb (l .face) 0)
 
--- the numbers that a list marks with 1
-abbrev pub marked : List ℕ → ℕ → Bool
-marked marks f = eqb (getD marks f 0) 1
-
 -- the place is a multiple of the leaf's own 8^(d-level), and the leaf ends at or before 8^d
 unfoldable pub placeGood : ℕ → ℕ → Leaf → Bool
 placeGood d place l = eqb (place % sizeOf d l) 0 && leb (place + sizeOf d l) (8 ^ d)

@@ -1,6 +1,6 @@
 -- `colour::states::state_at` meets its contract: a class has one state. Assumes nothing.
 use borrow.Author.Tests.{ne-eqb}
-use Rattle.colour.specs.States.{stateBy}
+use Rattle.colour.specs.Held.{stateBy}
 use borrow.Author.Needs.{needs}
 use Rattle.colour.proofs.states.state_at.Statement.{statement}
 use Rattle.colour.proofs.states.state_at.Tie as tie

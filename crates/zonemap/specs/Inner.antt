@@ -1,0 +1,10 @@
+-- The faces that may be named, as a scan is told them. Only inner contracts cite this. Assumes nothing: this is a definition.
+use Prim.Native.Nat.{ℕ}
+use mathlib.Core.Bool.{Bool}
+use mathlib.Core.List.{List}
+use lib.Dec.{eqb}
+use lib.ListN.{getD}
+
+-- the numbers that a list marks with 1
+abbrev pub marked : List ℕ → ℕ → Bool
+marked marks f = eqb (getD marks f 0) 1

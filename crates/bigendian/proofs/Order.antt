@@ -1,5 +1,5 @@
 -- Which byte counts most, and what bits a negative number has: that numbers are read back as they were written (`Written`) says neither. Assumes nothing.
-use mathlib.Core.Path.{_≡_, refl, ap, _∙_}
+use mathlib.Core.Path.{_≡_, refl}
 use mathlib.Core.List.{List}
 use Prim.Native.Nat.{ℕ, zero, suc, _+_, _*_, _^_, _≤_}
 use native.Mathlib.Nat.{add-zero, add-suc}

@@ -2,7 +2,7 @@
 -- truth of the solid there. Assumes nothing.
 use mathlib.Core.Path.{_≡_, refl, sym, ap, _∙_}
 use mathlib.Core.Bool.{Bool, true, false, cond, not}
-use mathlib.Core.List.{List, [], _∷_}
+use mathlib.Core.List.{List, []}
 use Prim.Native.Nat.{ℕ, _≤_}
 use native.Mathlib.Omega.{arith}
 use borrow.Author.Tests.{eqb-true, eqb-false}
@@ -29,7 +29,7 @@ use Rattle.zonemap.specs.Opening.{rootOf, faultOf}
 use Rattle.zonemap.proofs.Found.{leaf-bytes}
 use Rattle.zonemap.proofs.Tiling.{one}
 use Rattle.lookup.specs.declared.Reply.{Reply}
-use Rattle.lookup.specs.declared.Reply.the-variants.{Done, Map, OverRoot}
+use Rattle.lookup.specs.declared.Reply.the-variants.{Map, OverRoot}
 use Rattle.lookup.specs.Lookup.{answerNumber, answerOf, sideOf, leafHolding, mapReply, onSheet, lookupOf, codeOf}
 use Rattle.zone.specs.declared.ZoneReply.{ZoneReply}
 use Rattle.zone.specs.Replies.{reply, checkedByNumber, zoneCheckOf, lookupByNumber, zoneLookupOf}

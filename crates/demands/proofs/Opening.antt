@@ -1,6 +1,6 @@
 -- What it is that a map opens: the first fault is none exactly where the length, the version, the root and every leaf at its own place are good. Assumes nothing.
-use mathlib.Core.Path.{_≡_, refl, sym, ap, _∙_}
-use mathlib.Core.Bool.{Bool, true, false, cond, not, _&&_, _||_, and-eq-true-iff}
+use mathlib.Core.Path.{_≡_, refl, ap, _∙_}
+use mathlib.Core.Bool.{Bool, true, false, _&&_, and-eq-true-iff}
 use mathlib.Core.List.{List, [], _∷_}
 use Prim.Native.Nat.{ℕ, _+_, _-_, _*_, _/_, _%_, _^_, _≤_, _<_}
 use native.Mathlib.Omega.{arith}
@@ -10,29 +10,21 @@ use lib.ListN.{length, getD}
 use Rattle.bigendian.specs.Numbers.{unsignedAt}
 use Rattle.integers.proofs.First.{none-first}
 use Rattle.integers.proofs.Order.{by-test}
-use Rattle.cube.specs.Limits.{inLimits, WithinLimits}
+use Rattle.cube.specs.Limits.{WithinLimits}
 use Rattle.cube.proofs.Numbers.{within-limits, limits-within, out-of-limits}
 use Rattle.zonemap.specs.declared.Leaf.{Leaf}
 use Rattle.zonemap.specs.declared.Opened.{Opened}
 use Rattle.zonemap.specs.declared.Opened.the-variants.{Good, Bad}
 use Rattle.zonemap.specs.Map.{mapVersion}
 use Rattle.zonemap.specs.Opening.{lengthGood, rootOf, leavesOf, sizeOf, levelGood, faceGood, placeGood, leafGood, leavesFault, headerFault, faultOf, anyFace, openOf}
-use Rattle.zonemap.specs.Leaves.{placeAt}
-use Rattle.zonemap.proofs.Runs.{Fine, run-at, run-end, at-run, opens-run, leaf-fault, end-fault, run-opens, one-fault}
-use Rattle.zonemap.proofs.Found.{leaves-count, opens-parts}
+use Rattle.zonemap.proofs.Runs.{level-told, place-told, leaf-parts, Fine, run-at, run-end, at-run, opens-run, leaf-fault, end-fault, run-opens}
+use Rattle.zonemap.proofs.Found.{leaves-count, header-told, opens-parts}
 use Rattle.zone.specs.Replies.{reply, openedByNumber, zoneOpenOf}
 use Rattle.demands.specs.Terms.{DoneWhere, nthLeaf, nthPlace, GoodLeaf, Opens}
 use Rattle.demands.specs.Table.{Faults}
 
 -- ---- one leaf
 module _ (d : ℕ) (l : Leaf) where
-  level-told : levelGood d l ≡ true → (l .level ≤ d) × (l .class ≤ 4) × (l .class ≡ 4 → l .level ≡ d)
-  unfolding levelGood
-  level-told e =
-      let t = and-eq-true-iff (leb (l .level) d && leb (l .class) 4) _ .0 e in
-      let u = and-eq-true-iff (leb (l .level) d) (leb (l .class) 4) .0 (t .0) in
-      (leb-true _ _ (u .0), leb-true _ _ (u .1), λ c. eqb-true _ _ (rw c at (t .1)))
-
   level-good : l .level ≤ d → l .class ≤ 4 → (l .class ≡ 4 → l .level ≡ d) → levelGood d l ≡ true
   unfolding levelGood
   level-good h c g =
@@ -51,25 +43,19 @@ module _ (d : ℕ) (l : Leaf) where
       (λ u. rw (t, u, three (eqb-true _ _ u)))
       (λ u. rw (t, u, other (eqb-false _ _ t) (eqb-false _ _ u))))
 
-  place-told : (place : ℕ) → placeGood d place l ≡ true → (place % sizeOf d l ≡ 0) × (place + sizeOf d l ≤ 8 ^ d)
-  unfolding placeGood
-  place-told place e = let t = and-eq-true-iff (eqb (place % sizeOf d l) 0) _ .0 e in (eqb-true _ _ (t .0), leb-true _ _ (t .1))
-
   place-good : (place : ℕ) → place % sizeOf d l ≡ 0 → place + sizeOf d l ≤ 8 ^ d → placeGood d place l ≡ true
   unfolding placeGood
   place-good place m h = rw (m, le-leb _ _ h)
 
 module _ (named : ℕ → Bool) (map : List ℕ) (i : ℕ) where
   leaf-told : Fine named (rootOf map .d) (nthPlace map i) (nthLeaf map i) → GoodLeaf named map i
-  unfolding leafGood
   leaf-told e =
       let d : ℕ = rootOf map .d in
       let l : Leaf = nthLeaf map i in
-      let t = and-eq-true-iff (levelGood d l && faceGood named l) (placeGood d (nthPlace map i) l) .0 e in
-      let u = and-eq-true-iff (levelGood d l) (faceGood named l) .0 (t .0) in
-      let level = level-told d l (u .0) in
-      let face = face-told d l named (u .1) in
-      let place = place-told d l (nthPlace map i) (t .1) in
+      let t = leaf-parts named d (nthPlace map i) l e in
+      let level = level-told d l (t .0) in
+      let face = face-told d l named (t .1) in
+      let place = place-told d l (nthPlace map i) (t .2) in
       record {
         level = level .0;
         class = level .1;
@@ -114,21 +100,10 @@ module _ (named : ℕ → Bool) (map : List ℕ) where
   abbrev d : ℕ
   d = rootOf map .d
 
-  header-told : headerFault map ≡ [] → (lengthGood map ≡ true) × (getD map 4 0 ≡ 1) × (inLimits (rootOf map) ≡ true)
-  unfolding headerFault
-  header-told e =
-      by-test (lengthGood map)
-      (λ t. by-test (eqb (getD map 4 0) mapVersion)
-      (λ u. by-test (inLimits (rootOf map))
-      (λ v. (t, eqb-true _ _ u, v))
-      (λ v. absurd (one-fault 5 (rw (t, u, v) at e))))
-      (λ u. absurd (one-fault 4 (rw (t, u) at e))))
-      (λ t. absurd (one-fault 0 (rw t at e)))
-
   pub opens-told : faultOf named map ≡ [] → Opens named map
   opens-told e =
       let p = opens-parts named map e in
-      let h = header-told (p .0) in
+      let h = header-told map (p .0) in
       let l = length-told map (h .0) in
       let run = opens-run named d 0 19 (leavesOf map) (p .1) in
       record {

@@ -1,8 +1,8 @@
 -- What zone_check tells of a sheet: code 0 exactly where rows 1 to 5 let it pass, and otherwise the first of them that does not. Assumes nothing.
-use mathlib.Core.Path.{_≡_, refl, sym, _∙_}
-use mathlib.Core.Bool.{Bool, true, false, not, _||_}
+use mathlib.Core.Path.{_≡_, refl, _∙_}
+use mathlib.Core.Bool.{true, false}
 use mathlib.Core.List.{List, []}
-use Prim.Native.Nat.{ℕ, _+_, _≤_, _<_}
+use Prim.Native.Nat.{ℕ, _+_, _≤_}
 use native.Mathlib.Omega.{arith}
 use borrow.Author.Tests.{eqb-true, eq-eqb, ne-eqb, ltb-false, lt-ltb, le-ltb}
 use lib.Dec.{eqb, ltb}
@@ -19,12 +19,12 @@ use Rattle.sheet.specs.declared.Checked.the-variants.{Good, Refused}
 use Rattle.sheet.specs.Records.{recordsOf, stopOf}
 use Rattle.sheet.specs.Operands.{firstUnmet, lastSort}
 use Rattle.sheet.specs.Check.{lengthFails, solidOf, sortedOf, checkOf, codeOf}
-use Rattle.sheet.proofs.Unmet.{none-unmet, all-operands, unmet-most}
-use Rattle.zone.specs.Replies.{reply, checkedByNumber, zoneCheckOf}
+use Rattle.sheet.proofs.Unmet.{none-unmet, all-operands}
+use Rattle.sheet.proofs.Good.{sorted-good, check-parts}
+use Rattle.zone.specs.Replies.{checkedByNumber, zoneCheckOf}
 use Rattle.demands.specs.Terms.{DoneWhere, GoodSheet}
 use Rattle.demands.specs.Table.{SheetRows}
 
--- ---- a refusal is not good
 -- no refusal of a sheet has code 0
 pub sheet-code : (why : Refusal) → codeOf why ≡ 0 → ⊥
 sheet-code Length e = omega arith
@@ -32,9 +32,6 @@ sheet-code Version e = omega arith
 sheet-code (BadRecord at) e = omega arith
 sheet-code (Operand n) e = omega arith
 sheet-code (Solid n) e = omega arith
-
-not-good : {A : Type 0} (why : Refusal) (n : ℕ) → Refused why ≡ Good n → A
-not-good why n e = let z : _≡_ {A = ℕ} 0 1 = cc in absurd (omega arith)
 
 -- code 0 is that of `Good` alone
 pub good-code : (checked : Checked) → checkedByNumber checked .code ≡ 0 → (n : ℕ) × (checked ≡ Good n)
@@ -57,45 +54,22 @@ module _ (s : List ℕ) where
   length-good h e = rw (le-ltb (length s) 3 h, eq-eqb _ _ e)
 
 -- ---- the records
-solid-told : (sort : Sort) (m n : ℕ) → solidOf sort m ≡ Good n → sort ≡ Logical
-solid-told Neither m n e = not-good (Solid m) n e
-solid-told Arithmetic m n e = not-good (Solid m) n e
-solid-told Logical m n e = refl
-
 solid-refused : (sort : Sort) (m : ℕ) → (sort ≡ Logical → ⊥) → solidOf sort m ≡ Refused (Solid m)
 solid-refused Neither m h = refl
 solid-refused Arithmetic m h = refl
 solid-refused Logical m h = absurd (h refl)
-
-sorted-told : (rs : List Record) (n : ℕ) → sortedOf rs ≡ Good n → (firstUnmet [] rs ≡ length rs) × (lastSort rs ≡ Logical)
-unfolding sortedOf
-sorted-told rs n e =
-    by-test (ltb (firstUnmet [] rs) (length rs))
-    (λ t. not-good (Operand (firstUnmet [] rs)) n (rw t at e))
-    (λ t. (omega (arith, ltb-false (firstUnmet [] rs) (length rs) t, unmet-most [] rs), solid-told (lastSort rs) (length rs) n (rw t at e)))
 
 -- ---- the whole sheet
 module _ (s : List ℕ) where
   abbrev rs : List Record
   rs = recordsOf s
 
-  check-parts : (n : ℕ) → checkOf s ≡ Good n → (lengthFails s ≡ false) × (getD s 2 0 ≡ 1) × (length s ≤ stopOf s) × (sortedOf rs ≡ Good n)
-  unfolding checkOf
-  check-parts n e =
-      by-test (lengthFails s)
-      (λ t. not-good Length n (rw t at e))
-      (λ t. by-test (eqb (getD s 2 0) 1)
-      (λ u. by-test (ltb (stopOf s) (length s))
-      (λ v. not-good (BadRecord (stopOf s)) n (rw (t, u, v) at e))
-      (λ v. (t, eqb-true _ _ u, ltb-false (stopOf s) (length s) v, rw (t, u, v) at e)))
-      (λ u. not-good Version n (rw (t, u) at e)))
-
   pub check-good : (n : ℕ) → checkOf s ≡ Good n → GoodSheet s
   check-good n e =
-      let t = check-parts n e in
+      let t = check-parts s n e in
       let l = length-told s (t .0) in
-      let o = sorted-told rs n (t .3) in
-      record { long = l .0; agrees = l .1; version = t .1; framed = t .2; operands = none-unmet rs (o .0); solid = o .1 }
+      let o = sorted-good rs n (t .3) in
+      record { long = l .0; agrees = l .1; version = t .1; framed = t .2; operands = none-unmet rs (o .1); solid = o .2 }
 
   module _ (agrees : lengthFails s ≡ false) (version : getD s 2 0 ≡ 1) (framed : length s ≤ stopOf s) where
     on-records : checkOf s ≡ sortedOf rs

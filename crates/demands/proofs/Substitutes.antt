@@ -4,7 +4,7 @@ use mathlib.Core.Path.{_≡_, refl, sym, ap, _∙_}
 use mathlib.Core.List.{List, [], _∷_, _++_}
 use Prim.Native.Nat.{ℕ}
 use native.Mathlib.Omega.{arith}
-use lib.ListN.{getD, drop, replicate}
+use lib.ListN.{getD, replicate}
 use Rattle.bigendian.specs.Numbers.{bytesOf, unsigned32}
 use Rattle.sheet.specs.declared.Record.{Record}
 use Rattle.sheet.specs.StepRoom.{stepSheet}

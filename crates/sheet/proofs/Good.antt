@@ -1,37 +1,56 @@
--- What a sheet that was found good tells: how many records it has, and that there is a last one. Assumes nothing.
+-- What a sheet that was found good tells: no row refused it, it has so many records, and there is a last one. Assumes nothing.
 use mathlib.Core.Path.{_≡_, refl}
-use mathlib.Core.Bool.{Bool, true, false, cond, not}
+use mathlib.Core.Bool.{false}
 use mathlib.Core.List.{List, [], _∷_}
 use Prim.Native.Nat.{ℕ, zero, suc, _<_, _≤_}
 use native.Mathlib.Omega.{arith}
+use borrow.Author.Tests.{eqb-true, ltb-false}
 use lib.Dec.{eqb, ltb}
 use lib.ListN.{length, getD}
+use Rattle.integers.proofs.Order.{by-test}
 use Rattle.sheet.specs.declared.Record.{Record}
 use Rattle.sheet.specs.declared.Sort.{Sort}
 use Rattle.sheet.specs.declared.Sort.the-variants.{Neither, Arithmetic, Logical}
 use Rattle.sheet.specs.declared.Read.{Read}
 use Rattle.sheet.specs.declared.Read.the-variants.{Found, Refused}
 use Rattle.sheet.specs.declared.Refusal.{Refusal}
-use Rattle.sheet.specs.declared.Checked.{Checked}
+use Rattle.sheet.specs.declared.Refusal.the-variants.{Length, Version, Operand, Solid, Record as BadRecord}
 use Rattle.sheet.specs.declared.Checked.the-variants.{Good, Refused as Bad}
 use Rattle.sheet.specs.Table.{readAt}
 use Rattle.sheet.specs.Records.{onRead, readFrom, reading, recordsOf, stopOf}
 use Rattle.sheet.specs.Operands.{firstUnmet, lastSort}
 use Rattle.sheet.specs.Check.{lengthFails, solidOf, sortedOf, checkOf}
+use Rattle.sheet.proofs.Unmet.{unmet-most}
 
 -- a refusal is not good
-past : (b : Bool) (why : Refusal) (rest : Checked) {n : ℕ} → cond b (Bad why) rest ≡ Good n → rest ≡ Good n
-past true why rest e = let z : _≡_ {A = ℕ} 0 1 = cc in absurd (omega arith)
-past false why rest e = e
+pub not-good : {A : Type 0} (why : Refusal) (n : ℕ) → Bad why ≡ Good n → A
+not-good why n e = let z : _≡_ {A = ℕ} 0 1 = cc in absurd (omega arith)
 
-solid-good : (sort : Sort) (m : ℕ) {n : ℕ} → solidOf sort m ≡ Good n → (n ≡ m) × (sort ≡ Logical)
-solid-good Neither m e = let z : _≡_ {A = ℕ} 0 1 = cc in absurd (omega arith)
-solid-good Arithmetic m e = let z : _≡_ {A = ℕ} 0 1 = cc in absurd (omega arith)
-solid-good Logical m e = (cc, refl)
+-- ---- what is so where no row refuses
+solid-good : (sort : Sort) (m n : ℕ) → solidOf sort m ≡ Good n → (n ≡ m) × (sort ≡ Logical)
+solid-good Neither m n e = not-good (Solid m) n e
+solid-good Arithmetic m n e = not-good (Solid m) n e
+solid-good Logical m n e = (cc, refl)
 
-sorted-good : (rs : List Record) {n : ℕ} → sortedOf rs ≡ Good n → (n ≡ length rs) × (lastSort rs ≡ Logical)
+pub sorted-good : (rs : List Record) (n : ℕ) → sortedOf rs ≡ Good n → (n ≡ length rs) × (firstUnmet [] rs ≡ length rs) × (lastSort rs ≡ Logical)
 unfolding sortedOf
-sorted-good rs e = solid-good (lastSort rs) (length rs) (past (ltb (firstUnmet [] rs) (length rs)) _ (solidOf (lastSort rs) (length rs)) e)
+sorted-good rs n e =
+    by-test (ltb (firstUnmet [] rs) (length rs))
+    (λ t. not-good (Operand (firstUnmet [] rs)) n (rw t at e))
+    (λ t.
+    let last = solid-good (lastSort rs) (length rs) n (rw t at e) in
+    (last .0, omega (arith, ltb-false (firstUnmet [] rs) (length rs) t, unmet-most [] rs), last .1))
+
+pub check-parts : (s : List ℕ) (n : ℕ) → checkOf s ≡ Good n → (lengthFails s ≡ false) × (getD s 2 0 ≡ 1) × (length s ≤ stopOf s) × (sortedOf (recordsOf s) ≡ Good n)
+unfolding checkOf
+check-parts s n e =
+    by-test (lengthFails s)
+    (λ t. not-good Length n (rw t at e))
+    (λ t. by-test (eqb (getD s 2 0) 1)
+    (λ u. by-test (ltb (stopOf s) (length s))
+    (λ v. not-good (BadRecord (stopOf s)) n (rw (t, u, v) at e))
+    (λ v. (t, eqb-true _ _ u, ltb-false (stopOf s) (length s) v, rw (t, u, v) at e)))
+    (λ u. not-good Version n (rw (t, u) at e)))
 
 some : (rs : List Record) → lastSort rs ≡ Logical → 0 < length rs
 unfolding lastSort
@@ -57,12 +76,11 @@ pub number-few : (s : List ℕ) (count n : ℕ) → count ≡ length (recordsOf 
 number-few s count n e h = omega (arith, records-few s)
 
 module _ (s : List ℕ) (n : ℕ) (e : checkOf s ≡ Good n) where
-  sorted : sortedOf (recordsOf s) ≡ Good n
-  unfolding checkOf
-  sorted = past (ltb (stopOf s) (length s)) _ _ (past (not (eqb (getD s 2 0) 1)) _ _ (past (lengthFails s) _ _ e))
+  sorted : (n ≡ length (recordsOf s)) × (firstUnmet [] (recordsOf s) ≡ length (recordsOf s)) × (lastSort (recordsOf s) ≡ Logical)
+  sorted = sorted-good (recordsOf s) n (check-parts s n e .3)
 
   pub good-count : n ≡ length (recordsOf s)
-  good-count = sorted-good (recordsOf s) sorted .0
+  good-count = sorted .0
 
   pub good-some : 0 < n
-  good-some = omega (arith, good-count, some (recordsOf s) (sorted-good (recordsOf s) sorted .1))
+  good-some = omega (arith, good-count, some (recordsOf s) (sorted .2))

@@ -4,7 +4,7 @@ use mathlib.Core.Bool.{Bool, true}
 use mathlib.Core.List.{List, [], _∷_}
 use Prim.Native.Nat.{ℕ, zero, suc, _+_, _-_, _*_, _/_, _%_, _^_, _≤_, _<_}
 use native.Mathlib.Omega.{arith}
-use borrow.Author.Tests.{lt-ltb, le-ltb, ltb-true, ltb-false}
+use borrow.Author.Tests.{eqb-true, lt-ltb, le-ltb, ltb-true, ltb-false}
 use lib.Dec.{eqb, ltb}
 use lib.ListN.{length, getD}
 use Rattle.integers.proofs.Order.{by-test}
@@ -60,16 +60,19 @@ found-inside named s m n k e =
     omega (arith, h .among, leaves-count s ((length s - 19) / 3) 19)
 
 -- ---- the bytes before the leaves
-pub header-sizes : (s : List ℕ) → headerFault s ≡ [] → (19 ≤ length s) × (length s % 3 ≡ 1) × (inLimits (rootOf s) ≡ true)
+pub header-told : (s : List ℕ) → headerFault s ≡ [] → (lengthGood s ≡ true) × (getD s 4 0 ≡ 1) × (inLimits (rootOf s) ≡ true)
 unfolding headerFault
-header-sizes s e =
+header-told s e =
     by-test (lengthGood s)
     (λ t. by-test (eqb (getD s 4 0) mapVersion)
     (λ u. by-test (inLimits (rootOf s))
-    (λ v. (length-told s t .0, length-told s t .1, v))
+    (λ v. (t, eqb-true _ _ u, v))
     (λ v. absurd (one-fault 5 (rw (t, u, v) at e))))
     (λ u. absurd (one-fault 4 (rw (t, u) at e))))
     (λ t. absurd (one-fault 0 (rw t at e)))
+
+pub header-sizes : (s : List ℕ) → headerFault s ≡ [] → (19 ≤ length s) × (length s % 3 ≡ 1) × (inLimits (rootOf s) ≡ true)
+header-sizes s e = let t = header-told s e in (length-told s (t .0) .0, length-told s (t .0) .1, t .2)
 
 -- a map that opens has no fault before its leaves, and none in them
 pub opens-parts : (named : ℕ → Bool) (s : List ℕ) → faultOf named s ≡ [] → (headerFault s ≡ []) × (leavesFault named (rootOf s .d) 0 19 (leavesOf s) ≡ [])

@@ -13,27 +13,31 @@ use Rattle.zonemap.specs.Opening.{sizeOf, levelGood, faceGood, placeGood
 use Rattle.zonemap.specs.Leaves.{placeAt, nowhere}
 
 -- ---- what a good leaf is
-pub level-at-most : (d : ℕ) (l : Leaf) → levelGood d l ≡ true → l .level ≤ d
-unfolding levelGood
-level-at-most d l e =
-    let t = and-eq-true-iff (leb (l .level) d && leb (l .class) 4) _ .0 e in
-    leb-true (l .level) d (and-eq-true-iff (leb (l .level) d) (leb (l .class) 4) .0 (t .0) .0)
+module _ (d : ℕ) (l : Leaf) where
+  pub level-told : levelGood d l ≡ true → (l .level ≤ d) × (l .class ≤ 4) × (l .class ≡ 4 → l .level ≡ d)
+  unfolding levelGood
+  level-told e =
+      let t = and-eq-true-iff (leb (l .level) d && leb (l .class) 4) _ .0 e in
+      let u = and-eq-true-iff (leb (l .level) d) (leb (l .class) 4) .0 (t .0) in
+      (leb-true _ _ (u .0), leb-true _ _ (u .1), λ c. eqb-true _ _ (rw c at (t .1)))
+
+  pub place-told : (p : ℕ) → placeGood d p l ≡ true → (p % sizeOf d l ≡ 0) × (p + sizeOf d l ≤ 8 ^ d)
+  unfolding placeGood
+  place-told p e = let t = and-eq-true-iff (eqb (p % sizeOf d l) 0) (leb (p + sizeOf d l) (8 ^ d)) .0 e in (eqb-true _ _ (t .0), leb-true _ _ (t .1))
 
 module _ (named : ℕ → Bool) (d p : ℕ) (l : Leaf) where
-  leaf-parts : leafGood named d p l ≡ true → (levelGood d l ≡ true) × (placeGood d p l ≡ true)
+  pub leaf-parts : leafGood named d p l ≡ true → (levelGood d l ≡ true) × (faceGood named l ≡ true) × (placeGood d p l ≡ true)
   unfolding leafGood
   leaf-parts e =
       let t = and-eq-true-iff (levelGood d l && faceGood named l) (placeGood d p l) .0 e in
-      (and-eq-true-iff (levelGood d l) (faceGood named l) .0 (t .0) .0, t .1)
+      let u = and-eq-true-iff (levelGood d l) (faceGood named l) .0 (t .0) in
+      (u .0, u .1, t .1)
 
   pub good-level : leafGood named d p l ≡ true → l .level ≤ d
-  good-level e = level-at-most d l (leaf-parts e .0)
+  good-level e = level-told d l (leaf-parts e .0) .0
 
   pub good-place : leafGood named d p l ≡ true → (p % sizeOf d l ≡ 0) × (p + sizeOf d l ≤ 8 ^ d)
-  unfolding placeGood
-  good-place e =
-      let t = and-eq-true-iff (eqb (p % sizeOf d l) 0) (leb (p + sizeOf d l) (8 ^ d)) .0 (leaf-parts e .1) in
-      (eqb-true (p % sizeOf d l) 0 (t .0), leb-true (p + sizeOf d l) (8 ^ d) (t .1))
+  good-place e = place-told d l p (leaf-parts e .2)
 
 -- ---- runs
 -- the leaves run from place p to place e, and each is what `Each` says of it at its own place

@@ -23,7 +23,7 @@ use Rattle.zonemap.specs.declared.Leaf.{Leaf}
 use Rattle.zonemap.specs.declared.Header.the-variants.{Good as GoodHeader, Bad as BadHeader}
 use Rattle.zonemap.specs.Opening.{lengthGood, rootOf, sizeOf, levelGood, faceGood, placeGood, leafGood, headerFault}
 use Rattle.zonemap.proofs.Powers.{power-below}
-use Rattle.zonemap.proofs.Runs.{level-at-most, good-place}
+use Rattle.zonemap.proofs.Runs.{level-told, good-place}
 
 -- ---- the bytes before the leaves
 -- length_is_good: u is what `u32_at` answered
@@ -138,7 +138,7 @@ power-small n w e h = omega (arith, power-below n h)
 
 -- good_size: a and b are what `level_is_good` and `face_is_good` answered, r what `size_in_place` did
 pub size-room : (d : ℕ) (l : Leaf) (a : Bool) → a ≡ levelGood d l → a ≡ true → l .level ≤ d
-size-room d l a e t = level-at-most d l (sym e ∙ t)
+size-room d l a e t = level-told d l (sym e ∙ t) .0
 
 module _ (named : ℕ → Bool) (d p : ℕ) (l : Leaf) where
   -- a leaf's size where it is good, else 0

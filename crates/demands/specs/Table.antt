@@ -20,7 +20,7 @@ use Rattle.zonemap.specs.Opening.{lengthGood, rootOf, leavesOf, faultOf, anyFac
 use Rattle.build.specs.Solid.{pastsOf}
 use Rattle.build.specs.Build.{builtMap}
 use Rattle.zone.specs.Replies.{reply, zoneCheckOf, zoneBuildOf, zoneOpenOf, zoneLookupOf}
-use Rattle.demands.specs.Terms.{nthPlace, GoodSheet, GoodLeaf, Opens, Bounded}
+use Rattle.demands.specs.Terms.{nthPlace, GoodSheet, GoodLeaf, Opens, KeepsLimit}
 
 -- of any sheet
 pub record SheetRows (sheet : List ℕ) : Type 0 where
@@ -44,10 +44,10 @@ pub record BuildRows (sheet : List ℕ) (good : GoodSheet sheet) (root : Root) (
   -- a record's bounds over the root pass 2^60: the first such record
   pub row-7 : WithinLimits root → (n : ℕ) → pastOf (recordsOf sheet) (rootCube root) ≡ n ∷ [] → zoneBuildOf sheet root before .reply ≡ reply 7 n
   -- a record's bounds over a smaller cube pass 2^60: the first such record of the first such cube, a cube before its children
-  pub row-11 : WithinLimits root → Bounded (recordsOf sheet) (rootCube root) → (n : ℕ) (rest : List ℕ) → pastsOf (recordsOf sheet) (root .d) (rootCube root) ≡ n ∷ rest
+  pub row-11 : WithinLimits root → KeepsLimit (recordsOf sheet) (rootCube root) → (n : ℕ) (rest : List ℕ) → pastsOf (recordsOf sheet) (root .d) (rootCube root) ≡ n ∷ rest
       → zoneBuildOf sheet root before .reply ≡ reply 11 n
   -- lent buffer shorter than the map: bytes needed
-  pub row-8 : WithinLimits root → Bounded (recordsOf sheet) (rootCube root) → pastsOf (recordsOf sheet) (root .d) (rootCube root) ≡ []
+  pub row-8 : WithinLimits root → KeepsLimit (recordsOf sheet) (rootCube root) → pastsOf (recordsOf sheet) (root .d) (rootCube root) ≡ []
       → length before < length (builtMap (recordsOf sheet) root) → zoneBuildOf sheet root before .reply ≡ reply 8 (length (builtMap (recordsOf sheet) root))
 
 -- of a good sheet, zone_lookup
@@ -57,7 +57,7 @@ pub record LookupRows (sheet : List ℕ) (good : GoodSheet sheet) (map : List �
   -- a record's bounds over the root pass 2^60: the first such record
   pub row-7 : Opens (hasFace (recordsOf sheet)) map → (n : ℕ) → pastOf (recordsOf sheet) (rootCube (rootOf map)) ≡ n ∷ [] → zoneLookupOf sheet map p ≡ reply 7 n
   -- point not in the root, high planes left out
-  pub row-10 : Opens (hasFace (recordsOf sheet)) map → Bounded (recordsOf sheet) (rootCube (rootOf map)) → (InRoot (rootOf map) p → ⊥) → zoneLookupOf sheet map p ≡ reply 10 0
+  pub row-10 : Opens (hasFace (recordsOf sheet)) map → KeepsLimit (recordsOf sheet) (rootCube (rootOf map)) → (InRoot (rootOf map) p → ⊥) → zoneLookupOf sheet map p ≡ reply 10 0
 
 -- the offset of a map's first fault, where `named` says which face numbers a terminal leaf may have: 0 length, 4 version, 5 root or depth, a bad leaf's first
 -- byte, or the map's length if leaves stop short; the first such

@@ -106,19 +106,19 @@ pub record Opens (named : ℕ → Bool) (map : List ℕ) : Type 0 where
   pub whole : nthPlace map (length (leavesOf map)) ≡ 8 ^ rootOf map .d
 
 -- rows 7 and 11: each record's bounds over a cube lie in -2^60 to 2^60
-abbrev pub Bounded : List Record → Cube → Type 0
-Bounded rs q = (i : ℕ) → SmallEnds (getD (entries q rs) i blank .bounds)
+abbrev pub KeepsLimit : List Record → Cube → Type 0
+KeepsLimit rs q = (i : ℕ) → SmallEnds (getD (entries q rs) i blank .bounds)
 
 -- ---- the inputs that no row refuses
 pub record CanBuild (sheet : List ℕ) (root : Root) (before : List ℕ) : Type 0 where
   pub good : GoodSheet sheet
   pub limits : WithinLimits root
-  pub bounded : Bounded (recordsOf sheet) (rootCube root)
+  pub bounded : KeepsLimit (recordsOf sheet) (rootCube root)
   pub bounded-below : pastsOf (recordsOf sheet) (root .d) (rootCube root) ≡ []
   pub room : length (builtMap (recordsOf sheet) root) ≤ length before
 
 pub record CanLookUp (sheet map : List ℕ) (p : Point) : Type 0 where
   pub good : GoodSheet sheet
   pub opens : Opens (hasFace (recordsOf sheet)) map
-  pub bounded : Bounded (recordsOf sheet) (rootCube (rootOf map))
+  pub bounded : KeepsLimit (recordsOf sheet) (rootCube (rootOf map))
   pub inside : InRoot (rootOf map) p

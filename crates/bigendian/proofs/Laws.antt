@@ -1,4 +1,4 @@
--- Two bytes make a number, two such numbers one of four bytes, and a number of 32 bits is read as signed. Assumes nothing.
+-- Two bytes make a number, two such numbers one of four bytes, and a number of 32 bits is read as signed.
 use mathlib.Core.Path.{_≡_, refl, ap, _∙_}
 use mathlib.Core.List.{List}
 use Prim.Native.Nat.{ℕ, zero, suc, _+_, _*_, _-_, _<_, _≤_, _^_}

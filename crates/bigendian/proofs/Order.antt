@@ -1,4 +1,4 @@
--- Which byte counts most, and what bits a negative number has: that numbers are read back as they were written (`Written`) says neither. Assumes nothing.
+-- Which byte counts most, and what bits a negative number has: that numbers are read back as they were written (`Written`) says neither.
 use mathlib.Core.Path.{_≡_, refl}
 use mathlib.Core.List.{List}
 use Prim.Native.Nat.{ℕ, zero, suc, _+_, _*_, _^_, _≤_}

@@ -1,4 +1,4 @@
--- A number's bytes as they are written, and read back; a negative number's bits count down from 2^32 - 1. Assumes nothing.
+-- A number's bytes as they are written, and read back; a negative number's bits count down from 2^32 - 1.
 use mathlib.Core.Path.{_≡_, refl, ap, _∙_}
 use mathlib.Core.Bool.{true, false, true≢false}
 use mathlib.Core.List.{List, [], _∷_, _++_, append-assoc}

@@ -1,4 +1,4 @@
--- Numbers of several bytes are big-endian; signed ones are two's complement. Assumes nothing: these are definitions.
+-- Numbers of several bytes are big-endian; signed ones are two's complement.
 use Prim.Native.Nat.{ℕ, zero, suc, _+_, _*_, _-_, _/_, _%_, _^_}
 use mathlib.Core.Bool.{cond}
 use mathlib.Core.List.{List, [], _∷_, _++_}

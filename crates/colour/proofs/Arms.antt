@@ -1,4 +1,4 @@
--- What each arm of the two matches over the kinds of records returns. Assumes nothing.
+-- What each arm of the two matches over the kinds of records returns.
 use mathlib.Core.Path.{_≡_, sym}
 use mathlib.Core.List.{List}
 use Prim.Native.Nat.{ℕ, _+_, _≤_, _<_, _^_}

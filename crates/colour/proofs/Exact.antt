@@ -1,4 +1,4 @@
--- Over a point, which is a cube of side 0, the bounds of each record are one number. Assumes nothing.
+-- Over a point, which is a cube of side 0, the bounds of each record are one number.
 use mathlib.Core.Path.{_≡_, refl, ap}
 use mathlib.Core.List.{List}
 use Prim.Native.Nat.{ℕ}

@@ -1,4 +1,4 @@
--- The bounds and states of all records over a cube, as a loop fills them: so many records are done, and three arrays hold what is known of each. Assumes nothing.
+-- The bounds and states of all records over a cube, as a loop fills them: so many records are done, and three arrays hold what is known of each.
 use mathlib.Core.Path.{_≡_, refl, sym, ap, _∙_}
 use mathlib.Core.Bool.{false}
 use mathlib.Core.List.{List, [], _∷_, _++_, append-assoc}
@@ -28,8 +28,8 @@ use Rattle.sheet.proofs.Along.{along-more, length-along, take-along}
 use Rattle.sheet.proofs.Walk.{Before, stands-taken}
 use Rattle.sheet.proofs.Good.{records-few}
 use Rattle.sheet.proofs.Arrays.{Reads, reads-more, filled-with}
-use Rattle.kinds.specs.Offsets.{offsetOf}
-use Rattle.kinds.proofs.Listed.{before-offset}
+use Rattle.records.specs.Offsets.{offsetOf}
+use Rattle.records.proofs.Listed.{before-offset}
 use Rattle.cube.specs.declared.Cube.{Cube}
 use Rattle.colour.specs.declared.State.{State}
 use Rattle.colour.specs.declared.State.the-variants.{Out, In, Single, Comp, Mixed}

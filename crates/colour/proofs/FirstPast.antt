@@ -1,4 +1,4 @@
--- The first record whose bounds pass the limit, among entries. Assumes nothing.
+-- The first record whose bounds pass the limit, among entries.
 use mathlib.Core.Path.{_≡_, refl, ap}
 use mathlib.Core.Bool.{false}
 use mathlib.Core.List.{List, [], _∷_, _++_}

@@ -1,4 +1,4 @@
--- Over a cube that lies in another, each record's bounds lie in its bounds over the other. So where none passes the limit over a cube, none does over a smaller one. Assumes nothing.
+-- Over a cube that lies in another, each record's bounds lie in its bounds over the other. So where none passes the limit over a cube, none does over a smaller one.
 use mathlib.Core.Path.{_≡_}
 use mathlib.Core.List.{List, [], _∷_}
 use Prim.Native.Nat.{ℕ, _≤_, _^_}

@@ -1,4 +1,4 @@
--- What a cube that was judged tells: the state of the record that was asked, or the first record past the limit. Assumes nothing.
+-- What a cube that was judged tells: the state of the record that was asked, or the first record past the limit.
 use mathlib.Core.Path.{_≡_, ap, _∙_}
 use mathlib.Core.List.{List, [], _∷_}
 use Prim.Native.Nat.{ℕ}

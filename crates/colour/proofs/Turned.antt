@@ -1,4 +1,4 @@
--- Laws that tie the rules of states to one another: either is both turned over, complement twice changes nothing, and what In, Out and two other states give. Assumes nothing.
+-- Laws that tie the rules of states to one another: either is both turned over, complement twice changes nothing, and what In, Out and two other states give.
 use mathlib.Core.Path.{_≡_, refl, ap, sym, _∙_}
 use mathlib.Core.Bool.{Bool, true, false, cond}
 use Rattle.colour.specs.declared.State.{State}

@@ -1,4 +1,4 @@
--- Bounds over a closed cube: those of one record, from those of its operands. Assumes nothing: these are definitions.
+-- Bounds over a closed cube: those of one record, from those of its operands.
 use Prim.Native.Nat.{ℕ}
 use lib.IntN.{ℤ, pos, _+ℤ_}
 use Rattle.interval.specs.declared.Interval.{Interval}

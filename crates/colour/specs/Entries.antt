@@ -1,4 +1,4 @@
--- What is known of each record over a cube, record by record, and the limit. Assumes nothing: these are definitions.
+-- What is known of each record over a cube, record by record, and the limit.
 use Prim.Native.Nat.{ℕ, suc}
 use mathlib.Core.Bool.{cond}
 use mathlib.Core.List.{List, [], _∷_}

@@ -1,4 +1,4 @@
--- What is read of bounds that are held together in two lists of ends, and of states that are held as class and face. Only inner contracts cite this. Assumes nothing: these are definitions.
+-- What is read of bounds that are held together in two lists of ends, and of states that are held as class and face. Only inner contracts cite this.
 use Prim.Native.Nat.{ℕ}
 use mathlib.Core.Path.{_≡_}
 use mathlib.Core.Bool.{cond}

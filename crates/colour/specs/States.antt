@@ -1,4 +1,4 @@
--- Colour of a cube: the state of one logical record, and the class and face of a state. Assumes nothing: these are definitions.
+-- Colour of a cube: the state of one logical record, and the class and face of a state.
 use Prim.Native.Nat.{ℕ}
 use mathlib.Core.Bool.{Bool, true, false, cond, _||_}
 use lib.IntN.{pos}

@@ -3,7 +3,7 @@
 ghost use mathlib.Core.Path.{_≡_};
 ghost use lib.ListN.{length};
 ghost use Rattle.sheet.specs.Records.{recordsOf};
-ghost use Rattle.kinds.specs.Offsets.{Offsets};
+ghost use Rattle.records.specs.Offsets.{Offsets};
 ghost use Rattle.cube.specs.Limits.{Near};
 ghost use Rattle.colour.specs.Entries.{judgedOf};
 use crate::Bounds;
@@ -27,7 +27,7 @@ pub fn judge(s: &[u8], offsets: &[u16], count: usize, q: Cube, which: u8) -> Jud
     let mut faces = [0u8; 256];
     while b.count < count {
         let n = b.count;
-        let r = kinds::record_at(s, offsets[n] as usize);
+        let r = records::record_at(s, offsets[n] as usize);
         let Bounded::Within(v) = entries::bounds(r, q, &b.low, &b.high) else {
             return Judged::Past(n);
         };

@@ -1,4 +1,4 @@
--- A point of the root is in the cube at a place exactly when its place is one of the cube's. Assumes nothing.
+-- A point of the root is in the cube at a place exactly when its place is one of the cube's.
 use mathlib.Core.Path.{_≡_, refl}
 use mathlib.Core.Bool.{true}
 use Prim.Native.Nat.{ℕ, zero, suc, _+_, _-_, _*_, _/_, _%_, _^_, _≤_, _<_}

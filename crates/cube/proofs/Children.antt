@@ -1,4 +1,4 @@
--- Child number = x half + 2 (y half) + 4 (z half): the child of that number is the one in these halves. Assumes nothing.
+-- Child number = x half + 2 (y half) + 4 (z half): the child of that number is the one in these halves.
 use mathlib.Core.Path.{_≡_}
 use Prim.Native.Nat.{ℕ, _+_, _*_, _/_, _%_, _<_}
 use native.Mathlib.Omega.{arith}

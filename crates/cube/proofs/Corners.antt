@@ -1,4 +1,4 @@
--- The low corner of the cube at a place: the needs of `digit` and `corner`, and the corner of a child. Assumes nothing.
+-- The low corner of the cube at a place: the needs of `digit` and `corner`, and the corner of a child.
 use mathlib.Core.Path.{_≡_, refl, ap, _∙_}
 use Prim.Native.Nat.{ℕ, zero, suc, _+_, _-_, _*_, _/_, _%_, _^_, _≤_, _<_}
 use native.Mathlib.Nat.{zero-div, div-div-eq-div-mul}

@@ -1,4 +1,4 @@
--- The cubes of a root: the needs of `cube`, `child` and `cube_at`, cubes that stay near the origin, children that lie in their cube, and the child of the cube at a place. Assumes nothing.
+-- The cubes of a root: the needs of `cube`, `child` and `cube_at`, cubes that stay near the origin, children that lie in their cube, and the child of the cube at a place.
 use mathlib.Core.Path.{_≡_, refl, sym, ap, _∙_}
 use mathlib.Core.Bool.{true}
 use Prim.Native.Nat.{ℕ, suc, _+_, _-_, _*_, _/_, _^_, _≤_, _<_}

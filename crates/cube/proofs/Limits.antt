@@ -1,4 +1,4 @@
--- What it means that root and depth are in limits. Assumes nothing.
+-- What it means that root and depth are in limits.
 use mathlib.Core.Path.{_≡_, refl, sym}
 use mathlib.Core.Bool.{Bool, true, false, _&&_, true≢false}
 use Prim.Native.Nat.{ℕ, _+_, _≤_, _^_}

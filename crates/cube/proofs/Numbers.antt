@@ -1,4 +1,4 @@
--- The limits of root and depth by their numbers, each on a line: a root is in limits where all hold, and nowhere else. Assumes nothing.
+-- The limits of root and depth by their numbers, each on a line: a root is in limits where all hold, and nowhere else.
 use mathlib.Core.Path.{_≡_}
 use mathlib.Core.Bool.{true, false}
 use borrow.Author.Tests.{le-leb}

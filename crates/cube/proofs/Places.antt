@@ -1,4 +1,4 @@
--- The place of a point: the needs of `place_by`, `Point::cube` and `place`, and what holds of a point of the root. Assumes nothing.
+-- The place of a point: the needs of `place_by`, `Point::cube` and `place`, and what holds of a point of the root.
 use mathlib.Core.Path.{_≡_, refl, ap, _∙_}
 use mathlib.Core.Bool.{Bool, true, _&&_}
 use Prim.Native.Nat.{ℕ, zero, suc, _+_, _-_, _*_, _/_, _%_, _^_, _≤_, _<_}

@@ -1,4 +1,4 @@
--- The needs of `axis_fits`, `axis_holds`, `sizes_fit`, `is_within`, `holds`, `two_to`, `moved` and `steps_to`, each as it stands: the machine reads a number back from its bits. Assumes nothing.
+-- The needs of `axis_fits`, `axis_holds`, `sizes_fit`, `is_within`, `holds`, `two_to`, `moved` and `steps_to`, each as it stands: the machine reads a number back from its bits.
 use mathlib.Core.Path.{_≡_, sym, _∙_}
 use mathlib.Core.Bool.{Bool, true, false}
 use Prim.Native.Nat.{ℕ, _+_, _*_, _/_, _%_, _≤_, _<_, _^_}

@@ -1,4 +1,4 @@
--- Places of points, worked out from the definitions. Assumes nothing.
+-- Places of points, worked out from the definitions.
 use mathlib.Core.Path.{_≡_, refl}
 use mathlib.Core.Bool.{true, false}
 use Prim.Native.Nat.{ℕ}

@@ -1,4 +1,4 @@
--- The cubes of a root: its children, and the place of each. Assumes nothing: these are definitions.
+-- The cubes of a root: its children, and the place of each.
 use Prim.Native.Nat.{ℕ, zero, suc, _+_, _-_, _*_, _/_, _%_, _^_}
 use lib.IntN.{ℤ, pos, _+ℤ_}
 use Rattle.cube.specs.declared.Root.{Root}

@@ -1,4 +1,4 @@
--- The limits of root and depth: reply 6. Assumes nothing: these are definitions.
+-- The limits of root and depth: reply 6.
 use Prim.Native.Nat.{ℕ, _+_, _≤_, _^_}
 use mathlib.Core.Bool.{Bool, _&&_}
 use lib.Dec.{leb}

@@ -1,4 +1,4 @@
--- The whole points of a root, and the place of each. Assumes nothing: these are definitions.
+-- The whole points of a root, and the place of each.
 use Prim.Native.Nat.{ℕ, zero, suc, _+_, _-_, _*_, _/_, _%_, _^_}
 use mathlib.Core.Bool.{Bool, _&&_}
 use lib.IntN.{ℤ, pos, natAbs, _+ℤ_, _-ℤ_}

@@ -1,4 +1,4 @@
--- At a whole point a face's state over the cube of side 0 says whether the face holds there. Assumes nothing.
+-- At a whole point a face's state over the cube of side 0 says whether the face holds there.
 use mathlib.Core.Path.{_≡_, refl, sym, ap, _∙_}
 use mathlib.Core.Bool.{Bool, true, cond, true≢false}
 use mathlib.Core.List.{List, [], _∷_, _++_}
@@ -14,7 +14,7 @@ use Rattle.interval.specs.Rules.{only}
 use Rattle.sheet.specs.declared.Record.{Record}
 use Rattle.sheet.specs.declared.Record.the-variants.{Constant, X, Y, Z, Sum, Difference, Product, Square, Face, Both, Either, Complement}
 use Rattle.sheet.proofs.Along.{length-along, entry}
-use Rattle.kinds.specs.Faces.{isFace, hasFace}
+use Rattle.records.specs.Faces.{isFace, hasFace}
 use Rattle.cube.specs.declared.Cube.{Cube}
 use Rattle.cube.specs.declared.Point.{Point}
 use Rattle.cube.specs.Points.{pointCube}

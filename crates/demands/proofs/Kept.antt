@@ -1,4 +1,4 @@
--- The three demands are kept. Assumes nothing.
+-- The three demands are kept.
 use Rattle.demands.specs.Demands.{Demands, Demand1, Demand2, Demand3}
 use Rattle.demands.specs.Table.{Table}
 use Rattle.demands.proofs.Sheets.{checks, sheet-rows}

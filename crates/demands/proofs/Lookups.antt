@@ -1,5 +1,5 @@
 -- What zone_lookup answers: code 0 exactly where no row of the table refuses; the leaf that holds the position decides; and in a built map what it answers is the
--- truth of the solid there. Assumes nothing.
+-- truth of the solid there.
 use mathlib.Core.Path.{_≡_, refl, sym, ap, _∙_}
 use mathlib.Core.Bool.{Bool, true, false, cond, not}
 use mathlib.Core.List.{List, []}
@@ -14,7 +14,7 @@ use Rattle.sheet.specs.declared.Checked.{Checked}
 use Rattle.sheet.specs.declared.Checked.the-variants.{Good, Refused}
 use Rattle.sheet.specs.Records.{recordsOf}
 use Rattle.sheet.specs.Check.{checkOf}
-use Rattle.kinds.specs.Faces.{hasFace}
+use Rattle.records.specs.Faces.{hasFace}
 use Rattle.cube.specs.declared.Point.{Point}
 use Rattle.cube.specs.Cubes.{rootCube}
 use Rattle.cube.specs.Points.{holdsPoint, InRoot}

@@ -1,4 +1,4 @@
--- What a map built from a sheet is: the map that the rules name, which opens, each leaf of it being that of the cube at its own place. Assumes nothing.
+-- What a map built from a sheet is: the map that the rules name, which opens, each leaf of it being that of the cube at its own place.
 use mathlib.Core.Path.{_≡_, sym, ap, _∙_}
 use mathlib.Core.Bool.{true}
 use mathlib.Core.List.{List, [], _++_}
@@ -9,7 +9,7 @@ use Rattle.sheet.specs.declared.Record.{Record}
 use Rattle.sheet.specs.declared.Checked.the-variants.{Good}
 use Rattle.sheet.specs.Records.{recordsOf}
 use Rattle.sheet.specs.Check.{checkOf}
-use Rattle.kinds.specs.Faces.{hasFace}
+use Rattle.records.specs.Faces.{hasFace}
 use Rattle.cube.specs.declared.Root.{Root}
 use Rattle.cube.specs.declared.Point.{Point}
 use Rattle.cube.specs.Limits.{inLimits}
@@ -18,9 +18,9 @@ use Rattle.cube.specs.Points.{InRoot}
 use Rattle.colour.proofs.Smaller.{none-keep}
 use Rattle.zonemap.specs.Opening.{rootOf, leavesOf, faultOf}
 use Rattle.zonemap.proofs.Bytes.{map-length}
-use Rattle.build.specs.Solid.{leafOf}
-use Rattle.build.specs.Build.{builtMap}
-use Rattle.build.proofs.Answers.{Made}
+use Rattle.building.specs.Solid.{leafOf}
+use Rattle.building.specs.Build.{builtMap}
+use Rattle.building.proofs.Answers.{Made}
 use Rattle.roundtrip.proofs.Built.{all, built-opens, built-root, built-leaves, leaf-is}
 use Rattle.zone.specs.Replies.{ZoneOutcome}
 use Rattle.demands.specs.Terms.{Built, nthLeaf, nthCube, Opens, CanLookUp}

@@ -1,4 +1,4 @@
--- What it is that a map opens: the first fault is none exactly where the length, the version, the root and every leaf at its own place are good. Assumes nothing.
+-- What it is that a map opens: the first fault is none exactly where the length, the version, the root and every leaf at its own place are good.
 use mathlib.Core.Path.{_≡_, refl, ap, _∙_}
 use mathlib.Core.Bool.{Bool, true, false, _&&_, and-eq-true-iff}
 use mathlib.Core.List.{List, [], _∷_}

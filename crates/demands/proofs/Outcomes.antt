@@ -1,4 +1,4 @@
--- What zone_build answers: code 0 exactly where no row of the table refuses, and where one does the lent buffer is as it was. Assumes nothing.
+-- What zone_build answers: code 0 exactly where no row of the table refuses, and where one does the lent buffer is as it was.
 use mathlib.Core.Path.{_≡_, refl, sym, ap}
 use mathlib.Core.List.{List}
 use Prim.Native.Nat.{ℕ}
@@ -19,11 +19,11 @@ use Rattle.cube.specs.Cubes.{rootCube}
 use Rattle.cube.proofs.Numbers.{within-limits, limits-within, out-of-limits}
 use Rattle.colour.specs.Entries.{pastOf}
 use Rattle.colour.proofs.Smaller.{none-keep, keep-none}
-use Rattle.build.specs.declared.Reply.{Reply}
-use Rattle.build.specs.declared.Reply.the-variants.{Done, Sheet, Limits, OverRoot, OverSmaller, Short}
-use Rattle.build.specs.Solid.{pastsOf}
-use Rattle.build.specs.Build.{Outcome, outcome, builtMap, storedOf, overRootOf, onSheet, buildOf, codeOf, numberOf}
-use Rattle.build.proofs.Answers.{Made, done-made}
+use Rattle.building.specs.declared.Reply.{Reply}
+use Rattle.building.specs.declared.Reply.the-variants.{Done, Sheet, Limits, OverRoot, OverSmaller, Short}
+use Rattle.building.specs.Solid.{pastsOf}
+use Rattle.building.specs.Build.{Outcome, outcome, builtMap, storedOf, overRootOf, onSheet, buildOf, codeOf, numberOf}
+use Rattle.building.proofs.Answers.{Made, done-made}
 use Rattle.zone.specs.declared.ZoneReply.{ZoneReply}
 use Rattle.zone.specs.Replies.{reply, checkedByNumber, zoneCheckOf, ZoneOutcome, zoneOutcome, builtByNumber, zoneBuildOf}
 use Rattle.demands.specs.Terms.{ExactlyOne, DoneWhere, GoodSheet, CanBuild}

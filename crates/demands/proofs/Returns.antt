@@ -1,5 +1,5 @@
 -- What a contract of that form gives of a run: a call whose arguments are as their types say returns, its machine value stands for an answer, and the fact holds
--- of it. In every model of the logic. Assumes nothing.
+-- of it. In every model of the logic.
 use Prim.Native.Nat.{ℕ}
 use mathlib.Core.Path.{_≡_}
 use mathlib.Core.Logic.{∥∥₁-prop, ∥∥₁-elim, ∥∥₁-map}

@@ -1,4 +1,4 @@
--- Demand 3: a point in a leaf's closed cube agrees with the leaf, so that no white leaf touches a black one. Assumes nothing.
+-- Demand 3: a point in a leaf's closed cube agrees with the leaf, so that no white leaf touches a black one.
 use mathlib.Core.Path.{_≡_, sym, _∙_}
 use mathlib.Core.Bool.{true, cond, _||_, true≢false}
 use mathlib.Core.List.{List}
@@ -7,7 +7,7 @@ use lib.Dec.{eqb}
 use lib.ListN.{length}
 use Rattle.sheet.specs.declared.Record.{Record}
 use Rattle.sheet.specs.Records.{recordsOf}
-use Rattle.kinds.specs.Faces.{hasFace}
+use Rattle.records.specs.Faces.{hasFace}
 use Rattle.cube.specs.declared.Cube.{Cube}
 use Rattle.meaning.specs.Fractions.{FractionalPoint, InClosed}
 use Rattle.meaning.specs.Truth.{holdsAt, inSolid}
@@ -18,7 +18,7 @@ use Rattle.colour.specs.Held.{stateBy}
 use Rattle.colour.proofs.Filling.{back-again}
 use Rattle.soundness.specs.Claims.{Sound}
 use Rattle.soundness.proofs.StatesSound.{states-sound}
-use Rattle.build.specs.Solid.{solidState, leafBy, leafOf}
+use Rattle.building.specs.Solid.{solidState, leafBy, leafOf}
 use Rattle.roundtrip.proofs.Named.{solid-good}
 use Rattle.demands.specs.Terms.{Built, nthLeaf, nthCube, Touches}
 use Rattle.demands.specs.Demands.{Agrees}

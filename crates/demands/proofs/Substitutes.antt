@@ -1,5 +1,5 @@
 -- Wrong programs that the contract of `zone_build` shuts out, each on the step room at depth 1: what they would answer is not what the contract says. And why demand
--- 3 needs demand 2 beside it. Assumes nothing.
+-- 3 needs demand 2 beside it.
 use mathlib.Core.Path.{_≡_, refl, sym, ap, _∙_}
 use mathlib.Core.List.{List, [], _∷_, _++_}
 use Prim.Native.Nat.{ℕ}
@@ -12,7 +12,7 @@ use Rattle.meaning.specs.Fractions.{FractionalPoint}
 use Rattle.zonemap.specs.declared.Leaf.{Leaf}
 use Rattle.zonemap.specs.Map.{leafBytes, leavesBytes, cornerBytes, headerOf, mapOf}
 use Rattle.zonemap.specs.StepRoom.{stepRoot, stepMap}
-use Rattle.build.proofs.Rows.{build-1}
+use Rattle.building.proofs.Rows.{build-1}
 use Rattle.zone.specs.declared.ZoneReply.{ZoneReply}
 use Rattle.zone.specs.Replies.{reply, ZoneOutcome, zoneOutcome, zoneBuildOf}
 use Rattle.demands.specs.Demands.{Agrees}

@@ -1,4 +1,4 @@
--- What it is for a call to have one fact for its contract, whole. Assumes nothing: these are definitions.
+-- What it is for a call to have one fact for its contract, whole.
 use Prim.Native.Nat.{ℕ}
 use mathlib.Core.Path.{_≡_}
 use mathlib.Core.List.{List, [], _∷_}

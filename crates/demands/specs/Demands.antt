@@ -1,5 +1,5 @@
 -- The customer's three demands, stated of the calls that ship, by document 01's codes and numbers: zoneCheckOf, zoneBuildOf, zoneOpenOf and zoneLookupOf are
--- what the contracts of zone_check, zone_build, zone_open and zone_lookup say (proofs/Contracts). proofs/Kept has the proof of all. Assumes nothing.
+-- what the contracts of zone_check, zone_build, zone_open and zone_lookup say (proofs/Contracts). proofs/Kept has the proof of all.
 use mathlib.Core.Path.{_≡_}
 use mathlib.Core.Bool.{Bool, true, false, cond, not}
 use mathlib.Core.List.{List}
@@ -7,7 +7,7 @@ use Prim.Native.Nat.{ℕ, _+_, _*_, _<_}
 use lib.ListN.{length, drop}
 use Rattle.sheet.specs.declared.Record.{Record}
 use Rattle.sheet.specs.Records.{recordsOf}
-use Rattle.kinds.specs.Faces.{hasFace}
+use Rattle.records.specs.Faces.{hasFace}
 use Rattle.cube.specs.declared.Root.{Root}
 use Rattle.cube.specs.declared.Point.{Point}
 use Rattle.cube.specs.Points.{InRoot}
@@ -15,8 +15,8 @@ use Rattle.meaning.specs.Fractions.{FractionalPoint, whole, InClosedRoot}
 use Rattle.meaning.specs.Truth.{holdsAt, inSolid}
 use Rattle.zonemap.specs.declared.Leaf.{Leaf}
 use Rattle.zonemap.specs.Opening.{rootOf, leavesOf, anyFace}
-use Rattle.build.specs.Solid.{leafOf}
-use Rattle.build.specs.Build.{builtMap}
+use Rattle.building.specs.Solid.{leafOf}
+use Rattle.building.specs.Build.{builtMap}
 use Rattle.zone.specs.declared.ZoneReply.{ZoneReply}
 use Rattle.zone.specs.Replies.{reply, zoneCheckOf, ZoneOutcome, zoneOutcome, zoneBuildOf, zoneOpenOf, zoneLookupOf}
 use Rattle.demands.specs.Terms.{ExactlyOne, DoneWhere, Built, nthLeaf, nthCube, Holds, Touches, GoodSheet, Opens, CanBuild, CanLookUp}

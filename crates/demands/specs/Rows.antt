@@ -1,4 +1,4 @@
--- The eleven rows of document 01 that are marked P, as one list. Assumes nothing: these are statements.
+-- The eleven rows of document 01 that are marked P, as one list.
 use mathlib.Core.Path.{_≡_}
 use mathlib.Core.List.{List, [], _∷_, _++_}
 use Prim.Native.Nat.{ℕ, _≤_}
@@ -21,7 +21,7 @@ use Rattle.zonemap.specs.declared.Leaf.{Leaf}
 use Rattle.zonemap.specs.Map.{mapOf}
 use Rattle.zonemap.specs.Opening.{leavesOf}
 use Rattle.zonemap.specs.StepRoom.{stepRoot, stepMap}
-use Rattle.build.specs.Solid.{solidState}
+use Rattle.building.specs.Solid.{solidState}
 use Rattle.lookup.specs.Lookup.{leafHolding}
 use Rattle.zone.specs.Replies.{reply, zoneOutcome, zoneBuildOf, zoneLookupOf}
 

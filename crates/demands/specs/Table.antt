@@ -1,5 +1,5 @@
 -- Document 01's table of replies, in order of test: the code and the number of each refusal, where its row is the first that refuses. Replies 1 to 5 are
--- those of zone_check; the other calls give the same of a sheet that it refuses. Assumes nothing: these are statements.
+-- those of zone_check; the other calls give the same of a sheet that it refuses.
 use mathlib.Core.Path.{_≡_}
 use mathlib.Core.Bool.{Bool, true, false}
 use mathlib.Core.List.{List, [], _∷_}
@@ -9,7 +9,7 @@ use Rattle.sheet.specs.declared.Sort.the-variants.{Logical}
 use Rattle.sheet.specs.Records.{recordsOf, stopOf}
 use Rattle.sheet.specs.Operands.{firstUnmet, lastSort}
 use Rattle.sheet.specs.Check.{lengthFails}
-use Rattle.kinds.specs.Faces.{hasFace}
+use Rattle.records.specs.Faces.{hasFace}
 use Rattle.cube.specs.declared.Root.{Root}
 use Rattle.cube.specs.declared.Point.{Point}
 use Rattle.cube.specs.Limits.{WithinLimits}
@@ -17,8 +17,8 @@ use Rattle.cube.specs.Cubes.{rootCube}
 use Rattle.cube.specs.Points.{InRoot}
 use Rattle.colour.specs.Entries.{pastOf}
 use Rattle.zonemap.specs.Opening.{lengthGood, rootOf, leavesOf, faultOf, anyFace}
-use Rattle.build.specs.Solid.{pastsOf}
-use Rattle.build.specs.Build.{builtMap}
+use Rattle.building.specs.Solid.{pastsOf}
+use Rattle.building.specs.Build.{builtMap}
 use Rattle.zone.specs.Replies.{reply, zoneCheckOf, zoneBuildOf, zoneOpenOf, zoneLookupOf}
 use Rattle.demands.specs.Terms.{nthPlace, GoodSheet, GoodLeaf, Opens, KeepsLimit}
 

@@ -1,5 +1,5 @@
 -- What the demands speak of, in document 01's words and numbers: a built map, its leaves as its own bytes place them, and the inputs that no row of the
--- table of replies refuses. Assumes nothing: these are definitions.
+-- table of replies refuses.
 use mathlib.Core.Path.{_≡_}
 use mathlib.Core.Bool.{Bool, true}
 use mathlib.Core.List.{List, []}
@@ -12,7 +12,7 @@ use Rattle.sheet.specs.declared.Record.the-variants.{X}
 use Rattle.sheet.specs.declared.Sort.the-variants.{Neither, Logical}
 use Rattle.sheet.specs.Records.{recordsOf, stopOf}
 use Rattle.sheet.specs.Operands.{sortOf, askedOf, firstOf, secondOf, lastSort}
-use Rattle.kinds.specs.Faces.{hasFace}
+use Rattle.records.specs.Faces.{hasFace}
 use Rattle.cube.specs.declared.Root.{Root}
 use Rattle.cube.specs.declared.Cube.{Cube}
 use Rattle.cube.specs.declared.Point.{Point}
@@ -24,8 +24,8 @@ use Rattle.colour.specs.Entries.{blank, entries}
 use Rattle.zonemap.specs.declared.Leaf.{Leaf}
 use Rattle.zonemap.specs.Opening.{rootOf, leavesOf}
 use Rattle.zonemap.specs.Leaves.{placeAt, nowhere}
-use Rattle.build.specs.Solid.{pastsOf}
-use Rattle.build.specs.Build.{builtMap}
+use Rattle.building.specs.Solid.{pastsOf}
+use Rattle.building.specs.Build.{builtMap}
 use Rattle.zone.specs.declared.ZoneReply.{ZoneReply}
 use Rattle.zone.specs.Replies.{reply, zoneOutcome, zoneBuildOf}
 

@@ -1,4 +1,4 @@
--- What is known where the first of a list may have decided. Assumes nothing.
+-- What is known where the first of a list may have decided.
 use mathlib.Core.Path.{_≡_, refl, sym, ap}
 use mathlib.Core.List.{List, [], _∷_}
 use Prim.Native.Nat.{ℕ}

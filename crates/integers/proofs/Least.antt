@@ -1,4 +1,4 @@
--- Laws of the lesser and the greater of two whole numbers, and of the least and the greatest of four. Assumes nothing.
+-- Laws of the lesser and the greater of two whole numbers, and of the least and the greatest of four.
 use mathlib.Core.Path.{_≡_, ap₂, _∙_}
 use lib.IntN.{ℤ}
 use lib.Signed.{leZ, _≤ℤ_, ≤ℤ-refl}

@@ -1,5 +1,5 @@
 -- What the machine does with signed numbers of any width. A local holds bits, so each operand is read back from its bits, `toZ w (ofZ w a)`, and so is each result:
--- a number that fits is what it was. Assumes nothing.
+-- a number that fits is what it was.
 use mathlib.Core.Path.{_≡_, _∙_}
 use mathlib.Core.Bool.{false}
 use Prim.Native.Nat.{ℕ, suc, _≤_, _<_, _^_}

@@ -1,7 +1,7 @@
 -- The integers by naturals, so that `omega` serves for them: `omega` reads no ℤ. An integer z is  up z - dn z,  one of the two 0.
 -- Each law says a thing about integers as one about those naturals. Listed after `arith`, the ruleset `ints` has omega turn each order and equation of integers,
 -- in the goal and in the hypotheses, into one of naturals; `+-is a b`, `minus-is a b`, `*-is a b`, `neg-is a` and `abs-is a` are facts, one for each
--- sum, difference, product, negation and magnitude that the goal has. Assumes nothing.
+-- sum, difference, product, negation and magnitude that the goal has.
 use mathlib.Core.Path.{_≡_, refl, ap, subst}
 use mathlib.Core.Bool.{Bool, true, false, not, cond}
 use Prim.Native.Nat.{ℕ, zero, suc, _+_, _*_, _-_, _≤_, _<_}

@@ -1,4 +1,4 @@
--- Laws of the integers' order that `lib.Signed` lacks, and what its tests say. Assumes nothing.
+-- Laws of the integers' order that `lib.Signed` lacks, and what its tests say.
 use mathlib.Core.Path.{_≡_, refl}
 use mathlib.Core.Bool.{Bool, true, false, true≢false}
 use Prim.Native.Nat.{ℕ, zero, suc, _*_, _<_}

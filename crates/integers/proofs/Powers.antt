@@ -1,4 +1,4 @@
--- Powers of a whole number, as scales of numerators. Assumes nothing.
+-- Powers of a whole number, as scales of numerators.
 use mathlib.Core.Path.{_≡_, ap, _∙_}
 use Prim.Native.Nat.{ℕ, zero, suc, _*_, _^_}
 use native.Mathlib.Nat.{one-mul, pow-zero, pow-suc}

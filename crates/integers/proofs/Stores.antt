@@ -1,4 +1,4 @@
--- Stores in a list of bytes. Assumes nothing.
+-- Stores in a list of bytes.
 use mathlib.Core.Path.{_≡_}
 use mathlib.Core.List.{List, [], _∷_, _++_}
 use Prim.Native.Nat.{ℕ, suc, _+_}

@@ -1,4 +1,4 @@
--- Replies in order of test: the first of a list decides. Assumes nothing: this is a definition.
+-- Replies in order of test: the first of a list decides.
 use mathlib.Core.List.{List, [], _∷_}
 use Prim.Native.Nat.{ℕ}
 

@@ -1,4 +1,4 @@
--- The lesser and the greater of two whole numbers, the least and the greatest of four. Assumes nothing: these are definitions.
+-- The lesser and the greater of two whole numbers, the least and the greatest of four.
 use mathlib.Core.Bool.{cond}
 use lib.IntN.{ℤ}
 use lib.Signed.{leZ}

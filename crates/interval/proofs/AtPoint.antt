@@ -1,4 +1,4 @@
--- At a point the rules are exact: of intervals that hold one number alone they give the sum, the difference, the product and the square alone. Assumes nothing.
+-- At a point the rules are exact: of intervals that hold one number alone they give the sum, the difference, the product and the square alone.
 use mathlib.Core.Path.{_≡_, refl, ap₂}
 use lib.Dec.{leb·zero}
 use lib.IntN.{ℤ, pos, negsuc, _+ℤ_, _-ℤ_, _*ℤ_}

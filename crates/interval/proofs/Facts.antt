@@ -1,4 +1,4 @@
--- What a caller learns of an interval to which the limit was put: which interval it is, and that its ends are within the limit. Assumes nothing.
+-- What a caller learns of an interval to which the limit was put: which interval it is, and that its ends are within the limit.
 use mathlib.Core.Path.{_≡_}
 use mathlib.Core.Bool.{true, false, and-eq-true-iff}
 use Rattle.integers.proofs.Order.{by-test}

@@ -1,5 +1,5 @@
 -- The rules hold their numbers: the sum, the difference, the product and the square of numbers of the operands lie in the interval of the rule.
--- A number is a numerator over a scale, as in `Between`. Assumes nothing.
+-- A number is a numerator over a scale, as in `Between`.
 use Prim.Native.Nat.{ℕ, _*_}
 use lib.IntN.{ℤ, pos, _+ℤ_, _-ℤ_, _*ℤ_, *ℤ-comm, zero-*ℤ}
 use lib.Signed.{leZ, _≤ℤ_}

@@ -1,4 +1,4 @@
--- The rules keep what lies inside: where each operand lies inside another, so does what each of the four rules gives. Assumes nothing.
+-- The rules keep what lies inside: where each operand lies inside another, so does what each of the four rules gives.
 use lib.IntN.{ℤ, _*ℤ_}
 use lib.Signed.{_≤ℤ_, ≤ℤ-refl}
 use Rattle.integers.proofs.Ring.{times-one}

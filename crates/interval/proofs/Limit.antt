@@ -1,5 +1,5 @@
 -- Laws of the limit: what the test of a number says, what the machine keeps of numbers within the limit, and that a clamped number stands for the number
--- wherever only the limit is asked. Assumes nothing.
+-- wherever only the limit is asked.
 use mathlib.Core.Path.{_≡_, refl, sym}
 use mathlib.Core.Bool.{true, false}
 use Prim.Native.Nat.{_+_, _≤_, _<_, _^_}

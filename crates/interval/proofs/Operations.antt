@@ -1,4 +1,4 @@
--- The needs of the operations on intervals, each as it stands: the machine reads a number back from its bits. Assumes nothing.
+-- The needs of the operations on intervals, each as it stands: the machine reads a number back from its bits.
 use mathlib.Core.Path.{_≡_, ap, ap₂, _∙_}
 use mathlib.Core.Bool.{true, false}
 use Prim.Native.Nat.{_≤_, _<_, _^_}

@@ -1,4 +1,4 @@
--- The needs of `magnitude`, `is_small_product` and `times`, each as it stands: the machine reads a number back from its bits. Assumes nothing.
+-- The needs of `magnitude`, `is_small_product` and `times`, each as it stands: the machine reads a number back from its bits.
 use mathlib.Core.Path.{_≡_, refl, sym, _∙_}
 use mathlib.Core.Bool.{Bool, true, false, Bool·beq}
 use Prim.Native.Nat.{ℕ, zero, suc, _+_, _*_, _/_, _≤_, _<_, _^_}

@@ -1,4 +1,4 @@
--- The rules are as narrow as can be: each end of a sum, difference, product or square is that of numbers of the operands. With `Inclusion` this leaves no other interval. Assumes nothing.
+-- The rules are as narrow as can be: each end of a sum, difference, product or square is that of numbers of the operands. With `Inclusion` this leaves no other interval.
 use mathlib.Core.Path.{_≡_, refl}
 use lib.IntN.{ℤ, pos, _+ℤ_, _-ℤ_, _*ℤ_}
 use lib.Signed.{_≤ℤ_, ≤ℤ-refl}

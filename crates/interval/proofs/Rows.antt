@@ -1,4 +1,4 @@
--- Worked rows of the rules and of the limit, each by computation: the paper's, and those at an edge. Assumes nothing.
+-- Worked rows of the rules and of the limit, each by computation: the paper's, and those at an edge.
 use mathlib.Core.Path.{_≡_, refl}
 use Prim.Native.Nat.{ℕ, _+_, _^_}
 use lib.IntN.{ℤ, pos, negℤ}

@@ -1,4 +1,4 @@
--- The needs of `is_small`, `is_within`, `limited`, `lesser`, `greater` and `span`, each as it stands: the machine reads a number back from its bits. Assumes nothing.
+-- The needs of `is_small`, `is_within`, `limited`, `lesser`, `greater` and `span`, each as it stands: the machine reads a number back from its bits.
 use mathlib.Core.Path.{_≡_, refl, sym, ap₂, _∙_}
 use mathlib.Core.Bool.{Bool, true, false, cond}
 use Prim.Native.Nat.{_<_, _^_}

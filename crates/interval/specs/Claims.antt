@@ -1,4 +1,4 @@
--- What is claimed of intervals. Assumes nothing: these are definitions.
+-- What is claimed of intervals.
 use Prim.Native.Nat.{ℕ}
 use lib.IntN.{ℤ, pos, _*ℤ_}
 use lib.Signed.{_≤ℤ_}

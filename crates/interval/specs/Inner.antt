@@ -1,4 +1,4 @@
--- What a product is that may pass the limit. Only inner contracts cite this. Assumes nothing: this is a definition.
+-- What a product is that may pass the limit. Only inner contracts cite this.
 use mathlib.Core.Bool.{cond}
 use Prim.Native.Nat.{_+_, _^_}
 use lib.IntN.{ℤ, pos, negℤ}

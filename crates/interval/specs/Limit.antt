@@ -1,4 +1,4 @@
--- The limit: an end lies in -2^60 to 2^60. Assumes nothing: these are definitions.
+-- The limit: an end lies in -2^60 to 2^60.
 use mathlib.Core.Bool.{Bool, cond, _&&_}
 use Prim.Native.Nat.{_≤_, _^_}
 use lib.Dec.{leb}

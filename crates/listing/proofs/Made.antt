@@ -1,4 +1,4 @@
--- A map that building answers opens. Assumes nothing.
+-- A map that building answers opens.
 use mathlib.Core.Path.{_≡_, sym, ap, _∙_}
 use mathlib.Core.Bool.{Bool}
 use mathlib.Core.List.{List, []}
@@ -12,10 +12,10 @@ use mir.Facts.{toZ-ofZ}
 use Rattle.sheet.specs.Records.{recordsOf}
 use Rattle.cube.specs.declared.Root.{Root}
 use Rattle.zonemap.specs.Opening.{rootOf, faultOf}
-use Rattle.build.specs.declared.Reply.{Reply}
-use Rattle.build.specs.declared.Reply.the-variants.{Done}
-use Rattle.build.specs.Build.{outcome, builtMap, buildOf}
-use Rattle.build.proofs.Answers.{Made, done-made}
+use Rattle.building.specs.declared.Reply.{Reply}
+use Rattle.building.specs.declared.Reply.the-variants.{Done}
+use Rattle.building.specs.Build.{outcome, builtMap, buildOf}
+use Rattle.building.proofs.Answers.{Made, done-made}
 use Rattle.roundtrip.proofs.Built.{built-opens, built-root}
 
 -- the root as its fields are handed to `build`, read back from their bits

@@ -1,4 +1,4 @@
--- A map that opens can be listed: each leaf is of a level that the root has, and ends in the root. Assumes nothing.
+-- A map that opens can be listed: each leaf is of a level that the root has, and ends in the root.
 use mathlib.Core.Path.{_≡_, refl}
 use mathlib.Core.Bool.{Bool, true}
 use mathlib.Core.List.{List, []}

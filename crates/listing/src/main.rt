@@ -7,7 +7,7 @@ ghost use Prim.Native.Nat.{ℕ, _+_, _≤_, _^_};
 ghost use lib.ListN.{length};
 ghost use Rattle.cube.specs.Limits.{inLimits};
 ghost use Rattle.zonemap.specs.Opening.{rootOf, sizeOf, faultOf};
-use build::Reply;
+use building::Reply;
 use cube::Root;
 use zonemap::Leaf;
 
@@ -46,7 +46,7 @@ fn list(s: &[u8])
 {
     let root = root_of(s);
     let mut map = [0u8; 65536];
-    let reply = build::build(
+    let reply = building::build(
         &s[SHEET_FROM..],
         root.x,
         root.y,

@@ -1,4 +1,4 @@
--- Document 01's worked rows of looking up in the step room's map at depth 1. Assumes nothing.
+-- Document 01's worked rows of looking up in the step room's map at depth 1.
 use mathlib.Core.Path.{_≡_, refl}
 use mathlib.Core.Bool.{cond, not}
 use mathlib.Core.List.{[]}
@@ -10,7 +10,7 @@ use Rattle.interval.specs.Limit.{isSmall, isWithin}
 use Rattle.sheet.specs.Along.{along, onward}
 use Rattle.sheet.specs.StepRoom.{stepSheet, stepRecords}
 use Rattle.sheet.proofs.StepRoom.{step-records, step-check}
-use Rattle.kinds.specs.Faces.{hasFace}
+use Rattle.records.specs.Faces.{hasFace}
 use Rattle.cube.specs.declared.Point.{Point}
 use Rattle.cube.specs.Limits.{axisFits, sizesFit, inLimits}
 use Rattle.cube.specs.Cubes.{rootCube}

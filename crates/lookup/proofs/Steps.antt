@@ -1,4 +1,4 @@
--- The reply of looking up at each test, as the functions on the way learn it. Assumes nothing.
+-- The reply of looking up at each test, as the functions on the way learn it.
 use mathlib.Core.Path.{_≡_, sym, ap, _∙_}
 use mathlib.Core.Bool.{Bool, true, false, not}
 use mathlib.Core.List.{List, [], _∷_}
@@ -16,7 +16,7 @@ use Rattle.sheet.specs.declared.Checked.{Checked}
 use Rattle.sheet.specs.declared.Checked.the-variants.{Good, Refused}
 use Rattle.sheet.specs.Records.{recordsOf}
 use Rattle.sheet.specs.Check.{checkOf}
-use Rattle.kinds.specs.Faces.{isFace, hasFace, markOf, Marks}
+use Rattle.records.specs.Faces.{isFace, hasFace, markOf, Marks}
 use Rattle.cube.specs.declared.Point.{Point}
 use Rattle.cube.specs.declared.Root.{Root}
 use Rattle.cube.specs.declared.Cube.{Cube}

@@ -1,4 +1,4 @@
--- What the functions on the way to an answer ask and tell. Only inner contracts cite this. Assumes nothing: these are definitions.
+-- What the functions on the way to an answer ask and tell. Only inner contracts cite this.
 use mathlib.Core.Path.{_≡_}
 use mathlib.Core.Bool.{cond, true}
 use mathlib.Core.List.{List, []}

@@ -1,4 +1,4 @@
--- Looking a position up: what is answered. Assumes nothing: these are definitions.
+-- Looking a position up: what is answered.
 use Prim.Native.Nat.{ℕ}
 use mathlib.Core.Bool.{Bool, cond, not}
 use mathlib.Core.List.{List}
@@ -10,7 +10,7 @@ use Rattle.sheet.specs.declared.Checked.{Checked}
 use Rattle.sheet.specs.declared.Checked.the-variants.{Good, Refused}
 use Rattle.sheet.specs.Records.{recordsOf}
 use Rattle.sheet.specs.Check.{checkOf, codeOf as codeOfSheet, numberOf as numberOfSheet}
-use Rattle.kinds.specs.Faces.{hasFace}
+use Rattle.records.specs.Faces.{hasFace}
 use Rattle.cube.specs.declared.Point.{Point}
 use Rattle.cube.specs.Cubes.{rootCube}
 use Rattle.cube.specs.Points.{holdsPoint, pointCube, placeOf}

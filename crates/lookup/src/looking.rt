@@ -5,8 +5,8 @@ ghost use mathlib.Core.Bool.{true};
 ghost use mathlib.Core.List.{[]};
 ghost use lib.ListN.{length};
 ghost use Rattle.sheet.specs.Records.{recordsOf};
-ghost use Rattle.kinds.specs.Faces.{hasFace};
-ghost use Rattle.kinds.specs.Offsets.{Offsets};
+ghost use Rattle.records.specs.Faces.{hasFace};
+ghost use Rattle.records.specs.Offsets.{Offsets};
 ghost use Rattle.cube.specs.Limits.{inLimits};
 ghost use Rattle.zonemap.specs.Opening.{rootOf, offsetAt, headerFault, faultOf};
 ghost use Rattle.lookup.specs.Lookup.{faceHolds, sideOf, answerOf, mapReply, lookupOf};
@@ -56,7 +56,7 @@ fn in_leaves(sheet: &[u8], count: usize, map: &[u8], root: Root, p: Point) -> Re
     requires { ⌜ count ≡ length (recordsOf (now sheet)) ⌝ ∗ ⌜ headerFault (now map) ≡ [] ⌝ ∗ ⌜ root ≡ rootOf (now map) ⌝ }
     ensures { λ r. ⌜ r ≡ mapReply (recordsOf (now (sheet .entry))) (now (map .entry)) p ⌝ }
 {
-    let faces = kinds::faces(sheet, count);
+    let faces = records::faces(sheet, count);
     match zonemap::find(map, &faces, root.d, place_or_first(root, p)) {
         Scanned::At(at) => {
             return in_root(sheet, count, map, at, root, p);
@@ -84,7 +84,7 @@ fn in_root(sheet: &[u8], count: usize, map: &[u8], at: usize, root: Root, p: Poi
     ensures { λ r. ⌜ r ≡ mapReply (recordsOf (now (sheet .entry))) (now (map .entry)) p ⌝ }
 {
     let mut offsets = [0u16; 256];
-    kinds::list_offsets(sheet, count, &mut offsets);
+    records::list_offsets(sheet, count, &mut offsets);
     // The limit alone is asked for, so any record will do.
     match colour::judge(sheet, &offsets, count, root.cube(), 0) {
         Judged::Known(_) => {

@@ -1,4 +1,4 @@
--- Each point of a closed cube is beside a whole point of it, high planes left out, so that the cube of whatever leaf has the whole point has, closed, the point. Assumes nothing.
+-- Each point of a closed cube is beside a whole point of it, high planes left out, so that the cube of whatever leaf has the whole point has, closed, the point.
 use mathlib.Core.Path.{_≡_}
 use mathlib.Core.Bool.{true}
 use Prim.Native.Nat.{ℕ, zero, suc, _*_, _≤_, _<_}

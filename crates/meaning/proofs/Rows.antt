@@ -1,4 +1,4 @@
--- Sheets at points of fractions, the step room first, worked out from the definitions. Assumes nothing.
+-- Sheets at points of fractions, the step room first, worked out from the definitions.
 use mathlib.Core.Path.{_≡_, refl}
 use mathlib.Core.Bool.{true, false}
 use Prim.Native.Nat.{ℕ, suc}

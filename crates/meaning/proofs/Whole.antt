@@ -1,4 +1,4 @@
--- Whole points among the points of fractions. Assumes nothing.
+-- Whole points among the points of fractions.
 use mathlib.Core.Path.{_≡_}
 use mathlib.Core.Bool.{true}
 use Prim.Native.Nat.{ℕ}

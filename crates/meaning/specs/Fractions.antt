@@ -1,4 +1,4 @@
--- Fractions: the points between whole points, and the closed cubes that hold them. Assumes nothing: these are definitions.
+-- Fractions: the points between whole points, and the closed cubes that hold them.
 use Prim.Native.Nat.{ℕ, _<_, _^_}
 use native.Mathlib.Nat.{zero-lt-suc}
 use lib.IntN.{ℤ, pos, _+ℤ_, _*ℤ_}

@@ -1,4 +1,4 @@
--- What the records of a sheet are at a point: an arithmetic one has a value, a logical one holds or does not. Assumes nothing: these are definitions.
+-- What the records of a sheet are at a point: an arithmetic one has a value, a logical one holds or does not.
 use Prim.Native.Nat.{ℕ, _+_, _-_, _^_}
 use mathlib.Core.Bool.{Bool, false, not, _&&_, _||_}
 use mathlib.Core.List.{List}

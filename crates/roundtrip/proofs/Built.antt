@@ -1,5 +1,5 @@
 -- The leaves that building enumerates run from the root's first place to its last: each is good at its own place, and is the leaf of the cube there. So a built map
--- opens, with these leaves. Assumes nothing.
+-- opens, with these leaves.
 use mathlib.Core.Path.{_≡_, refl, sym, ap, _∙_}
 use mathlib.Core.Bool.{Bool, true, false, _||_, not}
 use mathlib.Core.List.{List, [], _∷_}
@@ -11,7 +11,7 @@ use lib.Dec.{eqb, leb}
 use lib.ListN.{length, getD}
 use Rattle.integers.proofs.Order.{by-test}
 use Rattle.sheet.specs.declared.Record.{Record}
-use Rattle.kinds.specs.Faces.{hasFace}
+use Rattle.records.specs.Faces.{hasFace}
 use Rattle.cube.specs.declared.Root.{Root}
 use Rattle.cube.specs.declared.Cube.{Cube}
 use Rattle.cube.specs.Limits.{inLimits}
@@ -27,10 +27,10 @@ use Rattle.zonemap.proofs.Trip.{leaves-back, root-back, map-opens}
 use Rattle.colour.specs.declared.State.{State}
 use Rattle.colour.specs.declared.State.the-variants.{Out, In, Single, Comp, Mixed}
 use Rattle.colour.specs.States.{classOf}
-use Rattle.build.specs.Tree.{upto}
-use Rattle.build.specs.Solid.{solidState, isGray, leafBy, leafOf, leavesBelow}
-use Rattle.build.specs.Build.{builtMap}
-use Rattle.build.proofs.Cubes.{kidLeaves, kid-leaves, leaves-split, leaves-end, leaves-flat, leaves-few}
+use Rattle.building.specs.Tree.{upto}
+use Rattle.building.specs.Solid.{solidState, isGray, leafBy, leafOf, leavesBelow}
+use Rattle.building.specs.Build.{builtMap}
+use Rattle.building.proofs.Cubes.{kidLeaves, kid-leaves, leaves-split, leaves-end, leaves-flat, leaves-few}
 use Rattle.roundtrip.proofs.Named.{solid-good}
 
 -- n runs of one size, one after the other

@@ -1,4 +1,4 @@
--- A state that names a face names a face of the sheet. Assumes nothing.
+-- A state that names a face names a face of the sheet.
 use mathlib.Core.Path.{_≡_, refl, sym, ap, _∙_}
 use mathlib.Core.Bool.{Bool, true, false, cond, _||_}
 use mathlib.Core.List.{List, _∷_, _++_}
@@ -12,14 +12,14 @@ use Rattle.sheet.specs.declared.Record.{Record}
 use Rattle.sheet.specs.declared.Record.the-variants.{Constant, X, Y, Z, Sum, Difference, Product, Square, Face, Both, Either, Complement}
 use Rattle.sheet.specs.Along.{along}
 use Rattle.sheet.proofs.Along.{Pairs, length-along, related-in}
-use Rattle.kinds.specs.Faces.{isFace, hasFace}
+use Rattle.records.specs.Faces.{isFace, hasFace}
 use Rattle.cube.specs.declared.Cube.{Cube}
 use Rattle.zonemap.specs.Opening.{faceGood}
 use Rattle.colour.specs.declared.State.{State}
 use Rattle.colour.specs.declared.State.the-variants.{Out, In, Single, Comp, Mixed}
 use Rattle.colour.specs.States.{isIn, isOut, faceState, complementOf, bothOf, eitherOf, stateOf}
 use Rattle.colour.specs.Entries.{Entry, blank, entryOf, entries}
-use Rattle.build.specs.Solid.{solidState, leafBy}
+use Rattle.building.specs.Solid.{solidState, leafBy}
 
 module _ (rs : List Record) where
   -- the face that a state names, where it names one, is a face of the sheet

@@ -1,4 +1,4 @@
--- Laws of `along`: its length, that an entry rests on the records before it alone, and the induction that everything else follows by. Assumes nothing.
+-- Laws of `along`: its length, that an entry rests on the records before it alone, and the induction that everything else follows by.
 use mathlib.Core.Path.{_≡_, refl, sym, ap, _∙_}
 use mathlib.Core.List.{List, [], _∷_, _++_, append-assoc}
 use Prim.Native.Nat.{ℕ, zero, suc, _+_, _≤_, _<_}

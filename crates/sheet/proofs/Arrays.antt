@@ -1,5 +1,5 @@
 -- An array that is filled from its start, beside the list of what was stored. Each place not yet filled holds what stands for an entry that is not there,
--- so the array reads as the list does at every number. Assumes nothing.
+-- so the array reads as the list does at every number.
 use mathlib.Core.Path.{_≡_, refl}
 use mathlib.Core.List.{List, [], _∷_, _++_}
 use Prim.Native.Nat.{ℕ, zero, suc, _<_}

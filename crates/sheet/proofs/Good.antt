@@ -1,4 +1,4 @@
--- What a sheet that was found good tells: no row refused it, it has so many records, and there is a last one. Assumes nothing.
+-- What a sheet that was found good tells: no row refused it, it has so many records, and there is a last one.
 use mathlib.Core.Path.{_≡_, refl}
 use mathlib.Core.Bool.{false}
 use mathlib.Core.List.{List, [], _∷_}

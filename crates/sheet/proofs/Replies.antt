@@ -1,4 +1,4 @@
--- What `check` answers at each of its tests. Assumes nothing.
+-- What `check` answers at each of its tests.
 use mathlib.Core.Path.{_≡_}
 use mathlib.Core.List.{List}
 use Prim.Native.Nat.{ℕ, _+_, _<_, _≤_}

@@ -1,4 +1,4 @@
--- The test of operands as a loop meets it: n records are done, an array holds their sorts, and what is left decides as the whole does. Assumes nothing.
+-- The test of operands as a loop meets it: n records are done, an array holds their sorts, and what is left decides as the whole does.
 use mathlib.Core.Path.{_≡_, refl, sym, ap, _∙_}
 use mathlib.Core.Bool.{Bool, true, false, cond}
 use mathlib.Core.List.{List, [], _∷_, _++_, map}

@@ -1,4 +1,4 @@
--- What is read of the step room's sheet. Assumes nothing.
+-- What is read of the step room's sheet.
 use mathlib.Core.Path.{_≡_, refl}
 use Rattle.bigendian.specs.Numbers.{unsignedAt, signed32}
 use Rattle.sheet.specs.declared.Checked.the-variants.{Good}

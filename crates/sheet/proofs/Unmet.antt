@@ -1,4 +1,4 @@
--- What it is that no record's operands are unmet: each is an earlier record of the sort that is asked. Assumes nothing.
+-- What it is that no record's operands are unmet: each is an earlier record of the sort that is asked.
 use mathlib.Core.Path.{_≡_, refl, sym, ap, _∙_}
 use mathlib.Core.Bool.{true, false, and-eq-true-iff}
 use mathlib.Core.List.{List, [], _∷_, _++_, map, append-assoc, append-nil}

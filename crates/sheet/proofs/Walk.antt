@@ -1,4 +1,4 @@
--- Walking through a sheet's records by `Cursor::read`: what holds at a cursor that n records came before. Every loop over records goes by it. Assumes nothing.
+-- Walking through a sheet's records by `Cursor::read`: what holds at a cursor that n records came before. Every loop over records goes by it.
 use mathlib.Core.Path.{_≡_, refl, sym, ap, _∙_}
 use mathlib.Core.Bool.{Bool, true, false, cond}
 use mathlib.Core.List.{List, [], _∷_, _++_}

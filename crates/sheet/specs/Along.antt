@@ -1,4 +1,4 @@
--- Everything that goes record by record: a list that grows by one entry for each record, worked out from the entries before it. Assumes nothing.
+-- Everything that goes record by record: a list that grows by one entry for each record, worked out from the entries before it.
 use mathlib.Core.List.{List, [], _∷_, _++_}
 use Rattle.sheet.specs.declared.Record.{Record}
 

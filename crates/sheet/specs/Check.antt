@@ -1,4 +1,4 @@
--- The test of a whole sheet: replies 1 to 5, in their order. Assumes nothing: these are definitions.
+-- The test of a whole sheet: replies 1 to 5, in their order.
 use Prim.Native.Nat.{ℕ, _+_}
 use mathlib.Core.Bool.{Bool, cond, not, _||_}
 use mathlib.Core.List.{List, []}

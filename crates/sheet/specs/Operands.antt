@@ -1,4 +1,4 @@
--- What a record asks of its operands, and the first record that does not get it. Assumes nothing: these are definitions.
+-- What a record asks of its operands, and the first record that does not get it.
 use Prim.Native.Nat.{ℕ}
 use mathlib.Core.Bool.{Bool, true, false, cond, _&&_}
 use mathlib.Core.List.{List, [], _∷_, _++_}

@@ -1,4 +1,4 @@
--- The records of a sheet, one after the other, and where reading them stops. Assumes nothing: these are definitions.
+-- The records of a sheet, one after the other, and where reading them stops.
 use Prim.Native.Nat.{ℕ, zero, suc}
 use mathlib.Core.List.{List, [], _∷_}
 use Rattle.sheet.specs.declared.Record.{Record}

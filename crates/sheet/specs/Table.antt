@@ -1,4 +1,4 @@
--- The zone sheet's table of kinds, and the record at a place of a sheet. Assumes nothing: these are definitions.
+-- The zone sheet's table of kinds, and the record at a place of a sheet.
 use mathlib.Core.Path.{_≡_}
 use Prim.Native.Nat.{ℕ, _+_, _-_, _<_}
 use mathlib.Core.Bool.{Bool, true, false, cond, _&&_}

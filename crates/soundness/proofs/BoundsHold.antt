@@ -1,4 +1,4 @@
--- Bounds over a closed cube hold the value of each record at every point of it, fractions included. Assumes nothing.
+-- Bounds over a closed cube hold the value of each record at every point of it, fractions included.
 use mathlib.Core.List.{List}
 use Prim.Native.Nat.{ℕ, _*_, _^_}
 use native.Mathlib.Nat.{mul-comm}

@@ -1,4 +1,4 @@
--- States are sound: what a record's state over a closed cube says is so at every point of it, fractions included. Assumes nothing.
+-- States are sound: what a record's state over a closed cube says is so at every point of it, fractions included.
 use mathlib.Core.Path.{_≡_, refl, sym, ap, _∙_}
 use mathlib.Core.Bool.{Bool, true, false, cond, not, _&&_, _||_, and-true, and-false, or-true, or-false, Bool·not-not, true≢false}
 use mathlib.Core.List.{List, _∷_, _++_}

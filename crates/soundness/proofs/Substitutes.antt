@@ -1,4 +1,4 @@
--- Rules that look sensible and are wrong: for each, a sheet, a cube and a point of it at which the state that the rule gives says what is not so. Assumes nothing.
+-- Rules that look sensible and are wrong: for each, a sheet, a cube and a point of it at which the state that the rule gives says what is not so.
 use mathlib.Core.Path.{_≡_, sym, ap}
 use mathlib.Core.Bool.{Bool, true, false, cond, _&&_, _||_, true≢false}
 use mathlib.Core.List.{List, [], _∷_}

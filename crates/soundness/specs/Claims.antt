@@ -1,4 +1,4 @@
--- What is claimed of bounds and states at a point of their cube. Assumes nothing: these are definitions.
+-- What is claimed of bounds and states at a point of their cube.
 use mathlib.Core.Path.{_≡_}
 use mathlib.Core.Bool.{Bool, true, false, not}
 use Prim.Native.Nat.{ℕ, _^_}

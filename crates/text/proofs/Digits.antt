@@ -1,4 +1,4 @@
--- The digits of a number: one below 10, and otherwise those of a tenth of it and one more. Assumes nothing.
+-- The digits of a number: one below 10, and otherwise those of a tenth of it and one more.
 use mathlib.Core.Path.{_≡_, refl, ap}
 use mathlib.Core.List.{List, [], _∷_, _++_}
 use Prim.Native.Nat.{ℕ, zero, suc, _/_, _%_, _≤_, _<_, _^_}

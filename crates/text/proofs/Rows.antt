@@ -1,4 +1,4 @@
--- Worked rows, each by computation. Assumes nothing.
+-- Worked rows, each by computation.
 use mathlib.Core.Path.{_≡_, refl}
 use mathlib.Core.List.{[], _∷_}
 use Prim.Native.Nat.{_^_}

@@ -1,4 +1,4 @@
--- A signed number by its magnitude, as `put_number` works it out: below 0 it is one more than -1 - n. Assumes nothing.
+-- A signed number by its magnitude, as `put_number` works it out: below 0 it is one more than -1 - n.
 use mathlib.Core.Path.{_≡_, refl, ap}
 use mathlib.Core.Bool.{true, false, true≢false}
 use mathlib.Core.List.{_∷_}

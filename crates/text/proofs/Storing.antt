@@ -1,4 +1,4 @@
--- Texts put into a buffer one after the other. Assumes nothing.
+-- Texts put into a buffer one after the other.
 use mathlib.Core.Path.{_≡_, refl, ap, _∙_}
 use mathlib.Core.Bool.{true, false}
 use mathlib.Core.List.{List, [], _∷_, _++_}

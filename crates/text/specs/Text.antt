@@ -1,4 +1,4 @@
--- Numbers and lines of numbers as text, in ASCII: 45 is a minus sign, 32 a space, 10 a line feed, and 48 the digit 0. Assumes nothing: these are definitions.
+-- Numbers and lines of numbers as text, in ASCII: 45 is a minus sign, 32 a space, 10 a line feed, and 48 the digit 0.
 use mathlib.Core.Path.{_≡_}
 use mathlib.Core.List.{List, [], _∷_, _++_}
 use Prim.Native.Nat.{ℕ, zero, suc, _+_, _/_, _%_}

@@ -1,4 +1,4 @@
--- The reply by number, where the call behind it answered so. Assumes nothing.
+-- The reply by number, where the call behind it answered so.
 use mathlib.Core.Path.{_≡_, sym, _∙_}
 use mathlib.Core.List.{List}
 use Prim.Native.Nat.{ℕ}

@@ -1,4 +1,4 @@
--- What a caller in C or Rust gets: the code and the number of the reply, and the bytes of the lent buffer. Assumes nothing: these are definitions.
+-- What a caller in C or Rust gets: the code and the number of the reply, and the bytes of the lent buffer.
 use Prim.Native.Nat.{ℕ}
 use mathlib.Core.List.{List}
 use Rattle.sheet.specs.declared.Checked.{Checked}
@@ -9,7 +9,7 @@ use Rattle.cube.specs.declared.Root.{Root}
 use Rattle.zonemap.specs.declared.Opened.{Opened}
 use Rattle.zonemap.specs.declared.Opened.the-variants.{Good as Opens, Bad}
 use Rattle.zonemap.specs.Opening.{openOf}
-use Rattle.build.specs.Build.{Outcome, buildOf, codeOf, numberOf}
+use Rattle.building.specs.Build.{Outcome, buildOf, codeOf, numberOf}
 use Rattle.lookup.specs.declared.Reply.{Reply}
 use Rattle.lookup.specs.Lookup.{lookupOf, codeOf as codeOfLookup, numberOf as numberOfLookup}
 use Rattle.zone.specs.declared.ZoneReply.{ZoneReply}

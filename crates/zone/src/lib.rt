@@ -46,7 +46,7 @@ pub extern "C" fn zone_build(
 ) -> ZoneReply
     ensures { λ r. ⌜ zoneOutcome r (now (out .exit)) ≡ zoneBuildOf (now (sheet .entry)) (record { x = x; y = y; z = z; k = k; d = d }) (now (out .entry)) ⌝ }
 {
-    let reply = build::build(sheet, x, y, z, k, d, out);
+    let reply = building::build(sheet, x, y, z, k, d, out);
     ZoneReply {
         code: reply.code(),
         number: reply.number() as u64,

@@ -1,4 +1,4 @@
--- Where each number of a map stands, by its byte: that what was written is read back (`Trip`) does not say where. Assumes nothing.
+-- Where each number of a map stands, by its byte: that what was written is read back (`Trip`) does not say where.
 use mathlib.Core.Path.{_≡_, refl, ap, _∙_}
 use mathlib.Core.Bool.{true}
 use mathlib.Core.List.{List, [], _∷_, _++_}

@@ -1,4 +1,4 @@
--- The bytes of a map: how many they are, and that stores one after another leave them. Assumes nothing.
+-- The bytes of a map: how many they are, and that stores one after another leave them.
 use mathlib.Core.Path.{_≡_, refl, ap, _∙_}
 use mathlib.Core.List.{List, [], _∷_, _++_}
 use Prim.Native.Nat.{ℕ, suc, _+_, _*_, _≤_, _<_}

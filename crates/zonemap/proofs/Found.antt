@@ -1,4 +1,4 @@
--- The leaf found: exactly one holds a place, and its three bytes are in the map. Assumes nothing.
+-- The leaf found: exactly one holds a place, and its three bytes are in the map.
 use mathlib.Core.Path.{_≡_, refl, ap}
 use mathlib.Core.Bool.{Bool, true}
 use mathlib.Core.List.{List, [], _∷_}

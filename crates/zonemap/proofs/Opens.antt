@@ -1,4 +1,4 @@
--- What the answers on the way to opening a map tell of it, and opening without a sheet. Assumes nothing.
+-- What the answers on the way to opening a map tell of it, and opening without a sheet.
 use mathlib.Core.Path.{_≡_, refl, sym, ap, _∙_}
 use mathlib.Core.Bool.{Bool, true}
 use mathlib.Core.List.{List, [], _∷_}

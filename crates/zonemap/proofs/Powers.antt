@@ -1,4 +1,4 @@
--- Powers of 8 by shifts. Assumes nothing.
+-- Powers of 8 by shifts.
 use mathlib.Core.Path.{_≡_}
 use Prim.Native.Nat.{ℕ, _*_, _%_, _^_, _≤_}
 use native.Mathlib.Nat.{zero-lt-suc, pow-le-pow-right}

@@ -1,4 +1,4 @@
--- Document 01's map of the step room, written and read. Assumes nothing.
+-- Document 01's map of the step room, written and read.
 use mathlib.Core.Path.{_≡_, refl}
 use mathlib.Core.Bool.{Bool, _||_}
 use mathlib.Core.List.{List, [], _∷_, _++_}

@@ -1,4 +1,4 @@
--- Runs of leaves: a map opens exactly where its leaves run from 0 to 8^d, each good at its own place. Assumes nothing.
+-- Runs of leaves: a map opens exactly where its leaves run from 0 to 8^d, each good at its own place.
 use mathlib.Core.Path.{_≡_, sym, _∙_}
 use mathlib.Core.Bool.{Bool, true, false, _&&_, and-eq-true-iff}
 use mathlib.Core.List.{List, [], _∷_, _++_}

@@ -1,4 +1,4 @@
--- The scan over a map's leaves: the needs of `find`, each as it stands. Assumes nothing.
+-- The scan over a map's leaves: the needs of `find`, each as it stands.
 use mathlib.Core.Path.{_≡_, refl, _∙_}
 use mathlib.Core.Bool.{Bool, cond}
 use mathlib.Core.List.{List, [], _∷_}

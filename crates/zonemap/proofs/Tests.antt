@@ -1,4 +1,4 @@
--- The tests of a map's bytes: the needs of the functions of `opening` that judge the header and one leaf, each as it stands. Assumes nothing.
+-- The tests of a map's bytes: the needs of the functions of `opening` that judge the header and one leaf, each as it stands.
 use mathlib.Core.Path.{_≡_, sym, _∙_}
 use mathlib.Core.Bool.{Bool, true, false, cond, not, _&&_, and-true, and-false, and-eq-true-iff}
 use mathlib.Core.List.{List}

@@ -1,4 +1,4 @@
--- Each whole point of the root of a map that opens is in one leaf of it, and in one only: the leaf that holds its place. Assumes nothing.
+-- Each whole point of the root of a map that opens is in one leaf of it, and in one only: the leaf that holds its place.
 use mathlib.Core.Path.{_≡_}
 use mathlib.Core.Bool.{Bool, true}
 use mathlib.Core.List.{List, []}

@@ -1,4 +1,4 @@
--- The leaf that holds a place, in words that no code rests on. Assumes nothing: these are definitions.
+-- The leaf that holds a place, in words that no code rests on.
 use Prim.Native.Nat.{ℕ, zero, suc, _+_, _≤_, _<_}
 use mathlib.Core.List.{List, [], _∷_}
 use lib.ListN.{length, getD}

@@ -1,4 +1,4 @@
--- The bytes of a zone map. Assumes nothing: these are definitions.
+-- The bytes of a zone map.
 use Prim.Native.Nat.{ℕ, _+_, _*_}
 use mathlib.Core.List.{List, [], _∷_, _++_}
 use lib.IntN.{ℤ}

@@ -1,4 +1,4 @@
--- Opening a map: whether its bytes are one, and else the offset of the first fault. Assumes nothing: these are definitions.
+-- Opening a map: whether its bytes are one, and else the offset of the first fault.
 use Prim.Native.Nat.{ℕ, zero, suc, _+_, _-_, _*_, _/_, _%_, _^_}
 use mathlib.Core.Bool.{Bool, true, cond, not, _&&_, _||_}
 use mathlib.Core.List.{List, [], _∷_}

@@ -1,4 +1,4 @@
--- Document 01's map of the step room. Assumes nothing: these are definitions.
+-- Document 01's map of the step room.
 use mathlib.Core.List.{List, [], _∷_, _++_}
 use Prim.Native.Nat.{ℕ}
 use lib.IntN.{pos}

@@ -1,4 +1,4 @@
--- `bigendian::i32_at` meets its contract. Assumes nothing.
+-- `bigendian::i32_at` meets its contract.
 use borrow.Author.Needs.{needs}
 use mathlib.Core.Path.{ap, _∙_}
 use mir.Syntax.{w32}

@@ -1,4 +1,4 @@
--- `bigendian::put_i32` meets its contract. Assumes nothing.
+-- `bigendian::put_i32` meets its contract.
 use Rattle.bigendian.proofs.Written.{signed-stored}
 use borrow.Author.Needs.{needs}
 use Rattle.bigendian.proofs.put_i32.Statement.{statement}

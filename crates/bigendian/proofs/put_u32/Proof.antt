@@ -1,4 +1,4 @@
--- `bigendian::put_u32` meets its contract. Assumes nothing.
+-- `bigendian::put_u32` meets its contract.
 use native.Mathlib.Omega.{arith}
 use lib.ListN.{length-set}
 use Rattle.bigendian.proofs.Written.{four-stored}

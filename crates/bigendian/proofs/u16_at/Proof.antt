@@ -1,4 +1,4 @@
--- `bigendian::u16_at` meets its contract: each byte is below 256. Assumes nothing.
+-- `bigendian::u16_at` meets its contract: each byte is below 256.
 use Prim.Native.Nat.{_+_}
 use native.Mathlib.Omega.{arith}
 use Rattle.bigendian.proofs.Laws.{two-bytes}

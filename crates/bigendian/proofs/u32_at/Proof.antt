@@ -1,4 +1,4 @@
--- `bigendian::u32_at` meets its contract. Assumes nothing.
+-- `bigendian::u32_at` meets its contract.
 use Rattle.bigendian.proofs.Laws.{four-bytes}
 use borrow.Author.Needs.{needs}
 use Rattle.bigendian.proofs.u32_at.Statement.{statement}

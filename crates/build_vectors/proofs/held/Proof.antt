@@ -1,4 +1,4 @@
--- `build_vectors::held` is safe and ends. Assumes nothing.
+-- `build_vectors::held` is safe and ends.
 use borrow.Author.Needs.{needs}
 use Prim.Native.Nat.{_-_, _≤_}
 use Rattle.build_vectors.proofs.held.Statement.{statement}

@@ -1,4 +1,4 @@
--- `check_vectors::main` is safe and ends: each line begins after the one before. Assumes nothing.
+-- `check_vectors::main` is safe and ends: each line begins after the one before.
 use borrow.Author.Needs.{needs}
 use Prim.Native.Nat.{_-_}
 use mathlib.Core.Path.{_≡_}

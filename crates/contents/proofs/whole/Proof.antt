@@ -1,4 +1,4 @@
--- `contents::whole` meets its contract: the cast loses nothing. Assumes nothing.
+-- `contents::whole` meets its contract: the cast loses nothing.
 use mir.Syntax.{w32}
 use mir.Facts.{sfits-widen, sfits-toZ, fits-ofZ}
 use borrow.Author.Needs.{needs}

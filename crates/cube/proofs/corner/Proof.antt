@@ -1,4 +1,4 @@
--- `cube::corner` meets its contract: a child number at a time, the root's first. Assumes nothing.
+-- `cube::corner` meets its contract: a child number at a time, the root's first.
 use native.Mathlib.Omega.{arith}
 use borrow.Author.Needs.{needs}
 use Rattle.cube.proofs.Corners.{Digits, digits-start, digits-small, digits-half, digits-on, digits-all}

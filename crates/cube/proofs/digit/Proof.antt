@@ -1,4 +1,4 @@
--- `cube::digit` meets its contract. Assumes nothing.
+-- `cube::digit` meets its contract.
 use Rattle.cube.proofs.Corners.{digit-is}
 use borrow.Author.Needs.{needs}
 use Rattle.cube.proofs.digit.Statement.{statement}

@@ -1,4 +1,4 @@
--- `cube::moved` meets its contract. Assumes nothing.
+-- `cube::moved` meets its contract.
 use Rattle.cube.proofs.Planes.{moved-fits, moved-is}
 use borrow.Author.Needs.{needs}
 use Rattle.cube.proofs.moved.Statement.{statement}

@@ -1,4 +1,4 @@
--- `cube::sizes_fit` meets its contract. Assumes nothing.
+-- `cube::sizes_fit` meets its contract.
 use borrow.Author.Needs.{needs}
 use Rattle.cube.proofs.Planes.{sizes-all, sizes-deep, sizes-large}
 use Rattle.cube.proofs.sizes_fit.Statement.{statement}

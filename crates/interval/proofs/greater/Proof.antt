@@ -1,4 +1,4 @@
--- `interval::greater` meets its contract. Assumes nothing.
+-- `interval::greater` meets its contract.
 use borrow.Author.Needs.{needs}
 use Rattle.integers.specs.Least.{greaterOf}
 use Rattle.interval.proofs.Tests.{chosen-first, chosen-second}

@@ -1,4 +1,4 @@
--- `interval::is_small` meets its contract. Assumes nothing.
+-- `interval::is_small` meets its contract.
 use borrow.Author.Needs.{needs}
 use Rattle.interval.proofs.Tests.{small-at-least, small-below}
 use Rattle.interval.proofs.is_small.Statement.{statement}

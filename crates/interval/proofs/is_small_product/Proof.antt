@@ -1,4 +1,4 @@
--- `interval::is_small_product` meets its contract. Assumes nothing.
+-- `interval::is_small_product` meets its contract.
 use borrow.Author.Needs.{needs}
 use Rattle.interval.proofs.Products.{product-halves, product-zero, product-quotient}
 use Rattle.interval.proofs.is_small_product.Statement.{statement}

@@ -1,4 +1,4 @@
--- `interval::lesser` meets its contract. Assumes nothing.
+-- `interval::lesser` meets its contract.
 use borrow.Author.Needs.{needs}
 use Rattle.integers.specs.Least.{lesserOf}
 use Rattle.interval.proofs.Tests.{chosen-first, chosen-second}

@@ -1,4 +1,4 @@
--- `interval::magnitude` meets its contract. Assumes nothing.
+-- `interval::magnitude` meets its contract.
 use borrow.Author.Needs.{needs}
 use Rattle.integers.proofs.Machine.{plain-cast}
 use Rattle.interval.proofs.Products.{negated-fits, negated-cast, negated-is}

@@ -1,4 +1,4 @@
--- `interval::span` meets its contract. Assumes nothing.
+-- `interval::span` meets its contract.
 use borrow.Author.Needs.{needs}
 use mathlib.Core.Path.{ap₂}
 use Rattle.interval.specs.Rules.{from, span}

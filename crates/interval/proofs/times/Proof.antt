@@ -1,4 +1,4 @@
--- `interval::times` meets its contract. Assumes nothing.
+-- `interval::times` meets its contract.
 use borrow.Author.Needs.{needs}
 use Rattle.interval.proofs.Products.{times-fits, times-exact, times-above, times-below}
 use Rattle.interval.proofs.times.Statement.{statement}

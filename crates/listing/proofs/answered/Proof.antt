@@ -1,4 +1,4 @@
--- `listing::answered` meets its contract: a map that opens has its 19 bytes before the leaves. Assumes nothing.
+-- `listing::answered` meets its contract: a map that opens has its 19 bytes before the leaves.
 use Rattle.zonemap.proofs.Found.{opens-sizes}
 use borrow.Author.Needs.{needs}
 use Rattle.listing.proofs.answered.Statement.{statement}

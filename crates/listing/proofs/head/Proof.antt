@@ -1,4 +1,4 @@
--- `listing::head` meets its contract: the casts lose nothing. Assumes nothing.
+-- `listing::head` meets its contract: the casts lose nothing.
 use Rattle.integers.proofs.Machine.{wide-fits}
 use borrow.Author.Needs.{needs}
 use Rattle.listing.proofs.head.Statement.{statement}

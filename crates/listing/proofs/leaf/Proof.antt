@@ -1,4 +1,4 @@
--- `listing::leaf` meets its contract: the casts lose nothing, and the place after a leaf fits. Assumes nothing.
+-- `listing::leaf` meets its contract: the casts lose nothing, and the place after a leaf fits.
 use Rattle.integers.proofs.Machine.{wide-fits}
 use Rattle.listing.proofs.Opened.{leaf-few, leaf-room}
 use native.Mathlib.Omega.{arith}

@@ -1,4 +1,4 @@
--- `listing::leaves` is safe and ends: the leaves that are left run on from `place`. Assumes nothing.
+-- `listing::leaves` is safe and ends: the leaves that are left run on from `place`.
 use Rattle.listing.proofs.Opened.{Left, left-start, left-level, left-room, left-on}
 use borrow.Author.Needs.{needs}
 use native.Mathlib.Omega.{arith}

@@ -1,4 +1,4 @@
--- `listing::list` meets its contract: a map that building answers opens. Assumes nothing.
+-- `listing::list` meets its contract: a map that building answers opens.
 use Rattle.listing.proofs.Made.{made-room, made-length, made-opens}
 use borrow.Author.Needs.{needs}
 use Rattle.listing.proofs.list.Statement.{statement}

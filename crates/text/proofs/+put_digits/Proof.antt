@@ -1,4 +1,4 @@
--- The proof of the cycle of calls {put_digits}: each call has a tenth of the number. Assumes nothing.
+-- The proof of the cycle of calls {put_digits}: each call has a tenth of the number.
 use native.Mathlib.Omega.{arith}
 use borrow.Author.Needs.{needs}
 use Rattle.text.proofs.Storing.{first-room, first-put, last-room, last-put}

@@ -1,4 +1,4 @@
--- `text::put_field` meets its contract. Assumes nothing.
+-- `text::put_field` meets its contract.
 use native.Mathlib.Omega.{arith}
 use borrow.Author.Needs.{needs}
 use Rattle.text.proofs.Storing.{end-room, end-put}

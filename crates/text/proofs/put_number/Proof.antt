@@ -1,4 +1,4 @@
--- `text::put_number` meets its contract: nothing is lost on the way to the magnitude. Assumes nothing.
+-- `text::put_number` meets its contract: nothing is lost on the way to the magnitude.
 use lib.ListN.{length-set}
 use mathlib.Core.Path.{_∙_}
 use native.Mathlib.Omega.{arith}

@@ -1,4 +1,4 @@
--- `vectors::past` meets its contract. Assumes nothing.
+-- `vectors::past` meets its contract.
 use borrow.Author.Needs.{needs}
 use Prim.Native.Nat.{_-_, _≤_}
 use lib.ListN.{length}

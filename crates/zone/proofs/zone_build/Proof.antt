@@ -1,4 +1,4 @@
--- `zone::zone_build` meets its contract: it is `build::build` with the reply by number. Assumes nothing.
+-- `zone::zone_build` meets its contract: it is `building::build` with the reply by number.
 use mathlib.Core.Path.{ap}
 use mir.Facts.{toZ-ofZ}
 use Rattle.zone.specs.Replies.{builtByNumber, zoneBuildOf}

@@ -1,4 +1,4 @@
--- `zone::zone_check` meets its contract: it is `sheet::check` with the reply by number. Assumes nothing.
+-- `zone::zone_check` meets its contract: it is `sheet::check` with the reply by number.
 use borrow.Author.Needs.{needs}
 use Rattle.zone.proofs.ByNumber.{good-sheet, bad-sheet}
 use Rattle.zone.proofs.zone_check.Statement.{statement}

@@ -1,4 +1,4 @@
--- `zone::zone_open` meets its contract: it is `zonemap::open` with the reply by number. Assumes nothing.
+-- `zone::zone_open` meets its contract: it is `zonemap::open` with the reply by number.
 use borrow.Author.Needs.{needs}
 use Rattle.zone.proofs.ByNumber.{good-map, bad-map}
 use Rattle.zone.proofs.zone_open.Statement.{statement}

@@ -1,4 +1,4 @@
--- `zonemap::put_corner` meets its contract: three numbers one after another. Assumes nothing.
+-- `zonemap::put_corner` meets its contract: three numbers one after another.
 use Rattle.zonemap.proofs.Bytes.{corner-stored}
 use borrow.Author.Needs.{needs}
 use Rattle.zonemap.proofs.put_corner.Statement.{statement}

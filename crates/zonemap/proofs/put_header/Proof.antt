@@ -1,4 +1,4 @@
--- `zonemap::put_header` meets its contract: count, version, corner, k and d one after another. Assumes nothing.
+-- `zonemap::put_header` meets its contract: count, version, corner, k and d one after another.
 use Rattle.zonemap.proofs.Bytes.{corner-room, k-room, d-room, header-kept, header-stored}
 use borrow.Author.Needs.{needs}
 use Rattle.zonemap.proofs.put_header.Statement.{statement}

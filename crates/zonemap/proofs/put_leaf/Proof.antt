@@ -1,4 +1,4 @@
--- `zonemap::put_leaf` meets its contract: three bytes one after another. Assumes nothing.
+-- `zonemap::put_leaf` meets its contract: three bytes one after another.
 use native.Mathlib.Omega.{arith}
 use mathlib.Core.Path.{refl}
 use lib.ListN.{length-set}

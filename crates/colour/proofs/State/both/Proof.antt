@@ -1,4 +1,4 @@
--- `colour::State::both` meets its contract: its tests are those of the rule. Assumes nothing.
+-- `colour::State::both` meets its contract: its tests are those of the rule.
 use mathlib.Core.Path.{sym, _∙_}
 use Rattle.colour.specs.States.{bothOf}
 use borrow.Author.Needs.{needs}

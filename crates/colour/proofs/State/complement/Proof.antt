@@ -1,4 +1,4 @@
--- `colour::State::complement` meets its contract: a face keeps its number. Assumes nothing.
+-- `colour::State::complement` meets its contract: a face keeps its number.
 use borrow.Author.Needs.{needs}
 use Rattle.colour.proofs.State.complement.Statement.{statement}
 use Rattle.colour.proofs.State.complement.Tie as tie

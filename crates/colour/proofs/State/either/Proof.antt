@@ -1,4 +1,4 @@
--- `colour::State::either` meets its contract: its tests are those of the rule. Assumes nothing.
+-- `colour::State::either` meets its contract: its tests are those of the rule.
 use mathlib.Core.Path.{sym, _∙_}
 use Rattle.colour.specs.States.{eitherOf}
 use borrow.Author.Needs.{needs}

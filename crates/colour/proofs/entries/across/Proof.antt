@@ -1,4 +1,4 @@
--- `colour::entries::across` meets its contract: a coordinate and a side are far from what 64 bits hold. Assumes nothing.
+-- `colour::entries::across` meets its contract: a coordinate and a side are far from what 64 bits hold.
 use Rattle.integers.proofs.Machine.{wide-fits, wide-sum-fits}
 use Rattle.colour.proofs.Coordinates.{across-is}
 use borrow.Author.Needs.{needs}

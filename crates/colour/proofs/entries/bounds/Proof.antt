@@ -1,4 +1,4 @@
--- `colour::entries::bounds` meets its contract: each kind has its own rule. Assumes nothing.
+-- `colour::entries::bounds` meets its contract: each kind has its own rule.
 use Rattle.integers.proofs.Machine.{wide-fits}
 use Rattle.colour.proofs.Arms.{held-small, constant-arm, x-arm, y-arm, z-arm, sum-arm, difference-arm, product-arm, square-arm, no-face-arm, no-both-arm, no-either-arm, no-complement-arm}
 use borrow.Author.Needs.{needs}

@@ -1,4 +1,4 @@
--- `colour::entries::state` meets its contract: each kind has its own rule. Assumes nothing.
+-- `colour::entries::state` meets its contract: each kind has its own rule.
 use Rattle.colour.proofs.Arms.{no-constant-arm, no-x-arm, no-y-arm, no-z-arm, no-sum-arm, no-difference-arm, no-product-arm, no-square-arm, face-arm, both-arm, either-arm, complement-arm}
 use borrow.Author.Needs.{needs}
 use Rattle.colour.proofs.entries.state.Statement.{statement}

@@ -1,8 +1,8 @@
--- `colour::judging::judge` meets its contract. The invariant is `Filling`: so many records are done, and the arrays hold what is known of each. Assumes nothing.
+-- `colour::judging::judge` meets its contract. The invariant is `Filling`: so many records are done, and the arrays hold what is known of each.
 use borrow.Author.Needs.{needs}
 use Prim.Native.Nat.{_-_}
 use native.Mathlib.Omega.{arith}
-use Rattle.kinds.proofs.Listed.{listed-stands}
+use Rattle.records.proofs.Listed.{listed-stands}
 use Rattle.sheet.proofs.Good.{number-few}
 use Rattle.colour.proofs.Filling.{Filling, filling-start, held, judged-end, judged-past, filling-next}
 use Rattle.colour.proofs.judging.judge.Statement.{statement}

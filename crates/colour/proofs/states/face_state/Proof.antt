@@ -1,4 +1,4 @@
--- `colour::states::face_state` meets its contract: its two tests are those of the rule. Assumes nothing.
+-- `colour::states::face_state` meets its contract: its two tests are those of the rule.
 use borrow.Author.Needs.{needs}
 use Rattle.colour.proofs.Coordinates.{face-in, face-out, face-single}
 use Rattle.colour.proofs.states.face_state.Statement.{statement}

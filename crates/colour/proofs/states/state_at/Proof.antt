@@ -1,4 +1,4 @@
--- `colour::states::state_at` meets its contract: a class has one state. Assumes nothing.
+-- `colour::states::state_at` meets its contract: a class has one state.
 use borrow.Author.Tests.{ne-eqb}
 use Rattle.colour.specs.Held.{stateBy}
 use borrow.Author.Needs.{needs}

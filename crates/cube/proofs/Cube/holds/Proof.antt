@@ -1,4 +1,4 @@
--- `cube::Cube::holds` meets its contract: the tests follow the definition's order. Assumes nothing.
+-- `cube::Cube::holds` meets its contract: the tests follow the definition's order.
 use Rattle.cube.proofs.Planes.{holds-not-x, holds-not-y, holds-z}
 use borrow.Author.Needs.{needs}
 use Rattle.cube.proofs.Cube.holds.Statement.{statement}

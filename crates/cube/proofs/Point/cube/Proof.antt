@@ -1,4 +1,4 @@
--- `cube::Point::cube` meets its contract. Assumes nothing.
+-- `cube::Point::cube` meets its contract.
 use borrow.Author.Needs.{needs}
 use Rattle.cube.proofs.Places.{point-told}
 use Rattle.cube.proofs.Point.cube.Statement.{statement}

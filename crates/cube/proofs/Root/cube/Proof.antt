@@ -1,4 +1,4 @@
--- `cube::Root::cube` meets its contract. Assumes nothing.
+-- `cube::Root::cube` meets its contract.
 use Rattle.cube.proofs.Cubes.{root-told}
 use borrow.Author.Needs.{needs}
 use Rattle.cube.proofs.Root.cube.Statement.{statement}

@@ -1,4 +1,4 @@
--- `cube::Root::cube_at` meets its contract: no corner leaves the root. Assumes nothing.
+-- `cube::Root::cube_at` meets its contract: no corner leaves the root.
 use borrow.Author.Needs.{needs}
 use Rattle.cube.proofs.Limits.{near-x, near-y, near-z}
 use Rattle.cube.proofs.Cubes.{at-sizes, at-level, at-deep, at-side, at-fits, at-room, at-told, low-told}

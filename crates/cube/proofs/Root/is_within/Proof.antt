@@ -1,4 +1,4 @@
--- `cube::Root::is_within` meets its contract: the tests follow the definition's order. Assumes nothing.
+-- `cube::Root::is_within` meets its contract: the tests follow the definition's order.
 use Rattle.cube.proofs.Planes.{side-small, within-not, within-not-x, within-not-y, within-z}
 use borrow.Author.Needs.{needs}
 use Rattle.cube.proofs.Root.is_within.Statement.{statement}

@@ -1,4 +1,4 @@
--- `cube::points::place_by` meets its contract: a child number at a time, the root's first. Assumes nothing.
+-- `cube::points::place_by` meets its contract: a child number at a time, the root's first.
 use native.Mathlib.Omega.{arith}
 use borrow.Author.Needs.{needs}
 use Rattle.cube.proofs.Places.{Bits, bits-start, bits-small, bits-on, bits-all}

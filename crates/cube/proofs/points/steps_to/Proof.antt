@@ -1,4 +1,4 @@
--- `cube::points::steps_to` meets its contract: no difference within the limits wraps. Assumes nothing.
+-- `cube::points::steps_to` meets its contract: no difference within the limits wraps.
 use Rattle.cube.proofs.Planes.{gap-fits, gap-cast, gap-steps}
 use borrow.Author.Needs.{needs}
 use Rattle.cube.proofs.points.steps_to.Statement.{statement}

@@ -1,4 +1,4 @@
--- `interval::Interval::difference` meets its contract. Assumes nothing.
+-- `interval::Interval::difference` meets its contract.
 use borrow.Author.Needs.{needs}
 use Rattle.interval.proofs.Limit.{difference-fits}
 use Rattle.interval.proofs.Operations.{difference-told}

@@ -1,4 +1,4 @@
--- `interval::Interval::is_within` meets its contract. Assumes nothing.
+-- `interval::Interval::is_within` meets its contract.
 use borrow.Author.Needs.{needs}
 use Rattle.interval.proofs.Tests.{within-low-past, within-high}
 use Rattle.interval.proofs.Interval.is_within.Statement.{statement}

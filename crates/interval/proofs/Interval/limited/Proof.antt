@@ -1,4 +1,4 @@
--- `interval::Interval::limited` meets its contract. Assumes nothing.
+-- `interval::Interval::limited` meets its contract.
 use borrow.Author.Needs.{needs}
 use Rattle.interval.proofs.Tests.{limited-within, limited-past}
 use Rattle.interval.proofs.Interval.limited.Statement.{statement}

@@ -1,4 +1,4 @@
--- `interval::Interval::product` meets its contract. Assumes nothing.
+-- `interval::Interval::product` meets its contract.
 use borrow.Author.Needs.{needs}
 use Rattle.interval.proofs.Operations.{times-told, product-told}
 use Rattle.interval.proofs.Interval.product.Statement.{statement}

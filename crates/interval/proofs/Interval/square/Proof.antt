@@ -1,4 +1,4 @@
--- `interval::Interval::square` meets its contract. Assumes nothing.
+-- `interval::Interval::square` meets its contract.
 use borrow.Author.Needs.{needs}
 use Rattle.interval.proofs.Operations.{times-told, square-up, square-down, square-across}
 use Rattle.interval.proofs.Interval.square.Statement.{statement}

@@ -1,4 +1,4 @@
--- `interval::Interval::sum` meets its contract. Assumes nothing.
+-- `interval::Interval::sum` meets its contract.
 use borrow.Author.Needs.{needs}
 use Rattle.interval.proofs.Limit.{sum-fits}
 use Rattle.interval.proofs.Operations.{sum-told}

@@ -1,4 +1,4 @@
--- `lookup::looking::answer` meets its contract, class by class. Assumes nothing.
+-- `lookup::looking::answer` meets its contract, class by class.
 use borrow.Author.Tests.{ne-eqb}
 use Rattle.lookup.specs.Lookup.{answerOf}
 use Rattle.lookup.proofs.Steps.{terminal, turned}

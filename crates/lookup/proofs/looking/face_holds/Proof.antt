@@ -1,4 +1,4 @@
--- `lookup::looking::face_holds` meets its contract: over a point of the root no record passes the limit, so the face's state is known. Assumes nothing.
+-- `lookup::looking::face_holds` meets its contract: over a point of the root no record passes the limit, so the face's state is known.
 use Rattle.lookup.proofs.Steps.{point-near-there, face-known, face-past}
 use borrow.Author.Needs.{needs}
 use Rattle.lookup.proofs.looking.face_holds.Statement.{statement}

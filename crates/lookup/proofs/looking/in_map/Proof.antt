@@ -1,4 +1,4 @@
--- `lookup::looking::in_map` meets its contract: the bytes before the leaves come before the leaves. Assumes nothing.
+-- `lookup::looking::in_map` meets its contract: the bytes before the leaves come before the leaves.
 use Rattle.zonemap.proofs.Opens.{header-good}
 use Rattle.lookup.proofs.Steps.{bad-header}
 use borrow.Author.Needs.{needs}

@@ -1,4 +1,4 @@
--- `lookup::looking::in_root` meets its contract: the limit over the root, then the point, then its leaf. Assumes nothing.
+-- `lookup::looking::in_root` meets its contract: the limit over the root, then the point, then its leaf.
 use Rattle.cube.proofs.Limits.{limits-sizes}
 use Rattle.colour.proofs.Told.{known-none, past-first}
 use Rattle.lookup.proofs.Steps.{opened-within, opened-near, leaf-room, over-root, not-in-root, judgeable, answered}

@@ -1,4 +1,4 @@
--- `lookup::looking::lookup` meets its contract: the sheet's own replies come first. Assumes nothing.
+-- `lookup::looking::lookup` meets its contract: the sheet's own replies come first.
 use mathlib.Core.Path.{sym, _∙_}
 use mir.Facts.{toZ-ofZ}
 use Rattle.sheet.proofs.Good.{good-count}

@@ -1,4 +1,4 @@
--- `lookup::looking::place_or_first` meets its contract. Assumes nothing.
+-- `lookup::looking::place_or_first` meets its contract.
 use Rattle.cube.proofs.Limits.{limits-sizes}
 use Rattle.lookup.proofs.Steps.{place-inside, place-outside, root-holds}
 use borrow.Author.Needs.{needs}

@@ -1,4 +1,4 @@
--- `sheet::checking::check` meets its contract: at each return the tests that led there pick the row of the table of replies. Assumes nothing.
+-- `sheet::checking::check` meets its contract: at each return the tests that led there pick the row of the table of replies.
 use Rattle.sheet.proofs.Replies.{too-short, disagrees, other-version, bad-record, all-framed}
 use borrow.Author.Needs.{needs}
 use Rattle.sheet.proofs.checking.check.Statement.{statement}

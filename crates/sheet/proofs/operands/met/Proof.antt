@@ -1,4 +1,4 @@
--- `sheet::operands::met` meets its contract. Assumes nothing.
+-- `sheet::operands::met` meets its contract.
 use mathlib.Core.Path.{sym, _∙_}
 use borrow.Author.Needs.{needs}
 use Rattle.sheet.proofs.operands.met.Statement.{statement}

@@ -1,4 +1,4 @@
--- `sheet::operands::solid` meets its contract. Assumes nothing.
+-- `sheet::operands::solid` meets its contract.
 use borrow.Author.Needs.{needs}
 use Rattle.sheet.proofs.operands.solid.Statement.{statement}
 use Rattle.sheet.proofs.operands.solid.Tie as tie

@@ -1,4 +1,4 @@
--- `sheet::table::row_at` meets its contract: the count byte says which rows can fit. Assumes nothing.
+-- `sheet::table::row_at` meets its contract: the count byte says which rows can fit.
 use Rattle.sheet.proofs.Rows.{row-none, row-one, row-two, row-constant, row-no-constant, row-unknown}
 use borrow.Author.Needs.{needs}
 use Rattle.sheet.proofs.table.row_at.Statement.{statement}

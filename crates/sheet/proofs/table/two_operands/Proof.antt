@@ -1,4 +1,4 @@
--- `sheet::table::two_operands` meets its contract: the tests on the kind pick the row. Assumes nothing.
+-- `sheet::table::two_operands` meets its contract: the tests on the kind pick the row.
 use borrow.Author.Tests.{ne-eqb}
 use Rattle.sheet.specs.Table.{rowOf}
 use Rattle.sheet.proofs.table.two_operands.Statement.{statement}

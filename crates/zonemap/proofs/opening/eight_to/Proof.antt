@@ -1,4 +1,4 @@
--- `zonemap::opening::eight_to` meets its contract: three binary places to one of base 8. Assumes nothing.
+-- `zonemap::opening::eight_to` meets its contract: three binary places to one of base 8.
 use Rattle.zonemap.proofs.Powers.{shifted}
 use borrow.Author.Needs.{needs}
 use Rattle.zonemap.proofs.opening.eight_to.Statement.{statement}

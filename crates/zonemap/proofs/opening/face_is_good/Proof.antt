@@ -1,4 +1,4 @@
--- `zonemap::opening::face_is_good` meets its contract: a face that is named, or none. Assumes nothing.
+-- `zonemap::opening::face_is_good` meets its contract: a face that is named, or none.
 use mathlib.Core.Logic.{⊎-elim, inl, inr}
 use Rattle.zonemap.proofs.Tests.{face-named, face-none}
 use borrow.Author.Needs.{needs}

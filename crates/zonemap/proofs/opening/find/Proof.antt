@@ -1,4 +1,4 @@
--- `zonemap::opening::find` meets its contract: the leaves that are left tell what the whole does. Assumes nothing.
+-- `zonemap::opening::find` meets its contract: the leaves that are left tell what the whole does.
 use borrow.Author.Needs.{needs}
 use Prim.Native.Nat.{_-_}
 use native.Mathlib.Omega.{arith}

@@ -1,4 +1,4 @@
--- `zonemap::opening::good_size` meets its contract: level and class, face, place. Assumes nothing.
+-- `zonemap::opening::good_size` meets its contract: level and class, face, place.
 use Rattle.zonemap.proofs.Tests.{size-room, size-level, size-face, size-placed}
 use borrow.Author.Needs.{needs}
 use Rattle.zonemap.proofs.opening.good_size.Statement.{statement}

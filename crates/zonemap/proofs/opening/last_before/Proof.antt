@@ -1,4 +1,4 @@
--- `zonemap::opening::last_before` meets its contract, branch by branch. Assumes nothing.
+-- `zonemap::opening::last_before` meets its contract, branch by branch.
 use native.Mathlib.Omega.{arith}
 use borrow.Author.Tests.{le-leb, lt-leb}
 use Rattle.zonemap.proofs.opening.last_before.Statement.{statement}

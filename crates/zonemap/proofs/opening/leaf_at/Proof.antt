@@ -1,4 +1,4 @@
--- `zonemap::opening::leaf_at` meets its contract: three bytes one after another. Assumes nothing.
+-- `zonemap::opening::leaf_at` meets its contract: three bytes one after another.
 use mathlib.Core.Path.{refl}
 use Rattle.zonemap.specs.Opening.{leafIn}
 use borrow.Author.Needs.{needs}

@@ -1,4 +1,4 @@
--- `zonemap::opening::length_is_good` meets its contract: too short, agreeing or not. Assumes nothing.
+-- `zonemap::opening::length_is_good` meets its contract: too short, agreeing or not.
 use Rattle.zonemap.proofs.Tests.{length-short, length-agrees, length-differs}
 use borrow.Author.Needs.{needs}
 use Rattle.zonemap.proofs.opening.length_is_good.Statement.{statement}

@@ -1,4 +1,4 @@
--- `zonemap::opening::level_is_good` meets its contract: a class below gray, gray, or none. Assumes nothing.
+-- `zonemap::opening::level_is_good` meets its contract: a class below gray, gray, or none.
 use Rattle.zonemap.proofs.Tests.{level-coloured, level-gray, level-none}
 use Rattle.zonemap.proofs.opening.level_is_good.Statement.{statement}
 use Rattle.zonemap.proofs.opening.level_is_good.Tie as tie

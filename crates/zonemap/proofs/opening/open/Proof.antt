@@ -1,4 +1,4 @@
--- `zonemap::opening::open` meets its contract: a fault of the header is the map's first, and after it come the leaves. Assumes nothing.
+-- `zonemap::opening::open` meets its contract: a fault of the header is the map's first, and after it come the leaves.
 use Rattle.zonemap.proofs.Opens.{header-good, bad-header-opens}
 use borrow.Author.Needs.{needs}
 use Rattle.zonemap.proofs.opening.open.Statement.{statement}

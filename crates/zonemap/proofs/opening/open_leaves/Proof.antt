@@ -1,4 +1,4 @@
--- `zonemap::opening::open_leaves` meets its contract: every face is marked, so that what the scan tells is what opening does. Assumes nothing.
+-- `zonemap::opening::open_leaves` meets its contract: every face is marked, so that what the scan tells is what opening does.
 use mathlib.Core.Path.{refl}
 use Rattle.zonemap.proofs.Opens.{scan-asks, has-header, good-leaves-open, bad-leaves-open}
 use borrow.Author.Needs.{needs}

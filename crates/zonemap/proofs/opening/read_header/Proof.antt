@@ -1,4 +1,4 @@
--- `zonemap::opening::read_header` meets its contract: length, version, root and depth, in this order. Assumes nothing.
+-- `zonemap::opening::read_header` meets its contract: length, version, root and depth, in this order.
 use Rattle.zonemap.proofs.Tests.{bad-length, header-room, bad-version, bad-root, good-header}
 use native.Mathlib.Omega.{arith}
 use borrow.Author.Needs.{needs}

@@ -1,4 +1,4 @@
--- `zonemap::opening::root` meets its contract: three numbers and two bytes. Assumes nothing.
+-- `zonemap::opening::root` meets its contract: three numbers and two bytes.
 use Rattle.zonemap.proofs.Tests.{root-told}
 use borrow.Author.Needs.{needs}
 use Rattle.zonemap.proofs.opening.root.Statement.{statement}

@@ -1,4 +1,4 @@
--- `zonemap::opening::size_in_place` meets its contract: a place that fits, one that ends past the root, one that is no multiple. Assumes nothing.
+-- `zonemap::opening::size_in_place` meets its contract: a place that fits, one that ends past the root, one that is no multiple.
 use native.Mathlib.Omega.{arith}
 use Rattle.zonemap.proofs.Tests.{power-small, size-some, place-yes, place-over, place-off}
 use borrow.Author.Needs.{needs}

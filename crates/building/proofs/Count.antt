@@ -1,0 +1,52 @@
+-- Counting the leaves below a cube, as the recursion meets it: a cube by itself, then one child after the other.
+use mathlib.Core.Path.{_≡_, sym, ap, _∙_}
+use mathlib.Core.Bool.{false}
+use mathlib.Core.List.{List}
+use Prim.Native.Nat.{ℕ, _+_, _-_, _^_, _≤_, _<_}
+use native.Mathlib.Omega.{arith}
+use lib.ListN.{length}
+use Rattle.sheet.specs.declared.Record.{Record}
+use Rattle.cube.specs.declared.Cube.{Cube}
+use Rattle.cube.specs.Cubes.{childOf}
+use Rattle.building.specs.Tree.{upto}
+use Rattle.building.specs.Solid.{isGray, leavesBelow}
+use Rattle.building.proofs.Tree.{upto-none, upto-length, upto-most}
+use Rattle.building.proofs.Cubes.{kidLeaves, kid-leaves, leaves-split, leaves-end, leaves-flat, leaves-few, Split}
+
+-- a cube that is not split
+module _ (rs : List Record) (left : ℕ) (q : Cube) where
+  pub one-end : left ≡ 0 → 1 ≡ length (leavesBelow rs left q)
+  one-end h = sym (ap length (leaves-end rs left q h))
+
+  pub one-flat : isGray rs q ≡ false → 1 ≡ length (leavesBelow rs left q)
+  one-flat h = sym (ap length (leaves-flat rs left q h))
+
+-- k of the children were counted
+pub record Counting (rs : List Record) (left : ℕ) (q : Cube) (total k : ℕ) : Type 0 where
+  pub split : Split rs left q
+  pub few : k ≤ 8
+  pub same : total ≡ length (upto (kidLeaves rs left q) k)
+
+pub counting-start : (rs : List Record) (left : ℕ) (q : Cube) → Split rs left q → Counting rs left q 0 0
+counting-start rs left q h = record { split = h; few = omega arith; same = sym (ap length (upto-none (kidLeaves rs left q))) }
+
+module _ (rs : List Record) (left : ℕ) (q : Cube) (total k : ℕ) (w : Counting rs left q total k) where
+  all : leavesBelow rs left q ≡ upto (kidLeaves rs left q) 8
+  all = leaves-split rs left q (w .split .deep) (w .split .gray)
+
+  pub counted-all : 8 ≤ k → total ≡ length (leavesBelow rs left q)
+  counted-all h =
+      let e : k ≡ 8 = omega (arith, w .few) in
+      rw all (rw e at (w .same))
+
+  module _ (more : k < 8) (child : Cube) (is : child ≡ childOf q k) (n : ℕ) (e : n ≡ length (leavesBelow rs (left - 1) child)) where
+    next-is : total + n ≡ length (upto (kidLeaves rs left q) (k + 1))
+    next-is =
+        let f : n ≡ length (kidLeaves rs left q k) = e ∙ ap (λ (c : Cube). length (leavesBelow rs (left - 1) c)) is ∙ ap length (sym (kid-leaves rs left q k)) in
+        omega (arith, w .same, f, upto-length (kidLeaves rs left q) k)
+
+    pub counting-room : left ≤ 10 → total + n ≤ 2 ^ 30
+    counting-room t = omega (arith, next-is, upto-most (kidLeaves rs left q) (k + 1) 8 (omega arith), ap length all, leaves-few rs left q t)
+
+    pub counting-next : Counting rs left q (total + n) (k + 1)
+    counting-next = record { split = w .split; few = omega arith; same = next-is }

@@ -1,0 +1,115 @@
+-- What a cube gives by itself and by its children; and where no record passes the limit over a cube, none does over a smaller one.
+use mathlib.Core.Path.{_≡_, refl, sym, ap, _∙_}
+use mathlib.Core.Bool.{true, false}
+use mathlib.Core.List.{List, [], _∷_, _++_}
+use Prim.Native.Nat.{ℕ, zero, suc, _+_, _-_, _^_, _≤_, _<_}
+use native.Mathlib.Nat.{zero-lt-suc, le-trans, pow-le-pow-right}
+use native.Mathlib.Numerals.{sub-one}
+use native.Mathlib.Omega.{arith}
+use borrow.Author.Tests.{ne-eqb}
+use lib.ListN.{length, getD}
+use Rattle.integers.proofs.Order.{by-test}
+use Rattle.sheet.specs.declared.Record.{Record}
+use Rattle.cube.specs.declared.Cube.{Cube}
+use Rattle.cube.specs.Cubes.{childOf}
+use Rattle.zonemap.specs.declared.Leaf.{Leaf}
+use Rattle.cube.proofs.Cubes.{child-inside}
+use Rattle.colour.specs.declared.State.{State}
+use Rattle.colour.specs.declared.Judged.{Judged}
+use Rattle.colour.specs.declared.Judged.the-variants.{Known, Past}
+use Rattle.colour.specs.Entries.{blank, entries, judgedOf, pastOf}
+use Rattle.colour.specs.States.{classOf}
+use Rattle.colour.proofs.Told.{known-is, past-first}
+use Rattle.colour.proofs.Smaller.{none-smaller}
+use Rattle.building.specs.Tree.{upto}
+use Rattle.building.specs.Solid.{solidState, isGray, leafOf, leavesBelow, pastsOf}
+use Rattle.building.proofs.Tree.{kid, upto-nothing, visit-end, visit-flat, visit-gray, visit-most}
+
+-- a cube that is split
+pub record Split (rs : List Record) (left : ℕ) (q : Cube) : Type 0 where
+  pub deep : 0 < left
+  pub gray : isGray rs q ≡ true
+
+module _ (rs : List Record) where
+  -- the leaves of child k, and the records past the limit there
+  abbrev pub kidLeaves : ℕ → Cube → ℕ → List Leaf
+  kidLeaves = kid (isGray rs) (λ q. []) (λ q. leafOf rs q ∷ [])
+
+  abbrev pub kidPasts : ℕ → Cube → ℕ → List ℕ
+  kidPasts = kid (isGray rs) (pastOf rs) (pastOf rs)
+
+  module _ (left : ℕ) (q : Cube) where
+    pub kid-leaves : (k : ℕ) → kidLeaves left q k ≡ leavesBelow rs (left - 1) (childOf q k)
+    unfolding leavesBelow
+    kid-leaves k = refl
+
+    pub kid-pasts : (k : ℕ) → kidPasts left q k ≡ pastsOf rs (left - 1) (childOf q k)
+    unfolding pastsOf
+    kid-pasts k = refl
+
+    -- a cube that is split
+    module _ (l : 0 < left) (g : isGray rs q ≡ true) where
+      pub leaves-split : leavesBelow rs left q ≡ upto (kidLeaves left q) 8
+      unfolding leavesBelow
+      leaves-split = visit-gray (isGray rs) (λ q. []) (λ q. leafOf rs q ∷ []) left q l g
+
+      pub pasts-split : pastsOf rs left q ≡ pastOf rs q ++ upto (kidPasts left q) 8
+      unfolding pastsOf
+      pasts-split = visit-gray (isGray rs) (pastOf rs) (pastOf rs) left q l g
+
+    -- a cube that is not
+    pub leaves-end : left ≡ 0 → leavesBelow rs left q ≡ leafOf rs q ∷ []
+    unfolding leavesBelow
+    leaves-end e = visit-end (isGray rs) (λ q. []) (λ q. leafOf rs q ∷ []) left q e
+
+    pub leaves-flat : isGray rs q ≡ false → leavesBelow rs left q ≡ leafOf rs q ∷ []
+    unfolding leavesBelow
+    leaves-flat e = visit-flat (isGray rs) (λ q. []) (λ q. leafOf rs q ∷ []) left q e
+
+    pub pasts-end : left ≡ 0 → pastsOf rs left q ≡ pastOf rs q
+    unfolding pastsOf
+    pasts-end e = visit-end (isGray rs) (pastOf rs) (pastOf rs) left q e
+
+    pub pasts-flat : isGray rs q ≡ false → pastsOf rs left q ≡ pastOf rs q
+    unfolding pastsOf
+    pasts-flat e = visit-flat (isGray rs) (pastOf rs) (pastOf rs) left q e
+
+    pub leaves-few : left ≤ 10 → length (leavesBelow rs left q) ≤ 2 ^ 30
+    unfolding leavesBelow
+    leaves-few h = le-trans (visit-most (isGray rs) (λ q. []) (λ q. leafOf rs q ∷ []) (λ q. refl) (λ q. refl) left q) (pow-le-pow-right (zero-lt-suc 7) h)
+
+  -- ---- the limit
+  pub child-none : (q : Cube) → pastOf rs q ≡ [] → (k : ℕ) → pastOf rs (childOf q k) ≡ []
+  child-none q none k = none-smaller (childOf q k) q (child-inside q k) rs none
+
+  -- reply 11 cannot be given
+  pub none-below : (left : ℕ) (q : Cube) → pastOf rs q ≡ [] → pastsOf rs left q ≡ []
+  none-below zero q none = pasts-end zero q refl ∙ none
+  none-below (suc left) q none =
+      by-test (isGray rs q)
+      (λ t.
+      let kids : (k : ℕ) → kidPasts (suc left) q k ≡ [] = λ k. kid-pasts (suc left) q k ∙ rw (sub-one (suc left)) (none-below left (childOf q k) (child-none q none k)) in
+      pasts-split (suc left) q (omega arith) t ∙ rw (none, upto-nothing (kidPasts (suc left) q) kids 8))
+      (λ t. pasts-flat (suc left) q t ∙ none)
+
+  -- ---- a cube that was judged, over which no record passes the limit
+  module _ (q : Cube) (solid : ℕ) (last : solid + 1 ≡ length rs) (j : Judged) (e : j ≡ judgedOf rs q solid) where
+    pub known-state : (state : State) → j ≡ Known state → state ≡ solidState rs q
+    unfolding solidState
+    known-state state k =
+        known-is rs q q refl solid j e state k ∙ ap (λ (n : ℕ). getD (entries q rs) n blank .state) (let z : solid ≡ length rs - 1 = omega arith in z)
+
+    pub not-past : pastOf rs q ≡ [] → (n : ℕ) → j ≡ Past n → ⊥
+    not-past none n k =
+        let z : [] ≡ n ∷ [] = sym none ∙ past-first rs q q refl solid j e n k in
+        let y : _≡_ {A = ℕ} 0 1 = ap length z in omega arith
+
+  -- its class tells whether it is split
+  module _ (q : Cube) (state : State) (is : state ≡ solidState rs q) (class : ℕ) (of : class ≡ classOf state) where
+    pub gray-is : class ≡ 4 → isGray rs q ≡ true
+    unfolding isGray
+    gray-is h = rw (← is, ← of, h)
+
+    pub flat-is : (class ≡ 4 → ⊥) → isGray rs q ≡ false
+    unfolding isGray
+    flat-is h = rw (← is, ← of) (ne-eqb class 4 h)

@@ -1,0 +1,82 @@
+-- Writing the leaves below a cube, as the recursion meets it: a cube by itself, then one child after the other.
+use mathlib.Core.Path.{_≡_, sym, ap, _∙_}
+use mathlib.Core.List.{List, [], _∷_}
+use Prim.Native.Nat.{ℕ, _+_, _-_, _*_, _≤_, _<_}
+use native.Mathlib.Omega.{arith}
+use lib.ListN.{length}
+use lib.Seq.{sets, length-sets}
+use Rattle.integers.proofs.Stores.{sets-append}
+use Rattle.sheet.specs.declared.Record.{Record}
+use Rattle.cube.specs.declared.Cube.{Cube}
+use Rattle.cube.specs.Cubes.{childOf}
+use Rattle.colour.specs.declared.State.{State}
+use Rattle.zonemap.specs.declared.Leaf.{Leaf}
+use Rattle.zonemap.specs.Map.{leafBytes, leavesBytes}
+use Rattle.zonemap.proofs.Bytes.{leaves-bytes-length, leaves-bytes-append}
+use Rattle.building.specs.Tree.{upto}
+use Rattle.building.specs.Solid.{solidState, leafBy, leafOf, leavesBelow}
+use Rattle.building.proofs.Tree.{upto-none, upto-more, upto-length, upto-most}
+use Rattle.building.proofs.Cubes.{kidLeaves, kid-leaves, leaves-split, Split}
+
+-- the leaves ls, written into d from `at` on: the place after them, and the bytes
+abbrev Put : List Leaf → List ℕ → ℕ → ℕ → List ℕ → Type 0
+Put ls d at r out = (r ≡ at + 3 * length ls) × (out ≡ sets d at (leavesBytes ls))
+
+-- ---- a cube that is not split
+module _ (rs : List Record) (left : ℕ) (q : Cube) (one : leavesBelow rs left q ≡ leafOf rs q ∷ []) (at : ℕ) where
+  pub leaf-room : (m : ℕ) → at + 3 * length (leavesBelow rs left q) ≤ m → at + 3 ≤ m
+  leaf-room m h = omega (arith, ap length one)
+
+  pub leaf-put : (state : State) → state ≡ solidState rs q → (d out : List ℕ) (r : ℕ) → (r ≡ at + 3) × (out ≡ sets d at (leafBytes (leafBy (q .level) state))) → Put (leavesBelow rs left q) d at r out
+  unfolding leafOf leavesBytes leafBytes
+  leaf-put state s d out r h = rw (one, ← s) (omega (arith, h .0), h .1)
+
+-- ---- the children: k of them were written
+pub record Writing (rs : List Record) (left : ℕ) (q : Cube) (d : List ℕ) (at : ℕ) (out : List ℕ) (next k : ℕ) : Type 0 where
+  pub split : Split rs left q
+  pub few : k ≤ 8
+  pub place : next ≡ at + 3 * length (upto (kidLeaves rs left q) k)
+  pub bytes : out ≡ sets d at (leavesBytes (upto (kidLeaves rs left q) k))
+
+pub writing-start : (rs : List Record) (left : ℕ) (q : Cube) (d : List ℕ) (at : ℕ) → Split rs left q → Writing rs left q d at d at 0
+unfolding leavesBytes
+writing-start rs left q d at h =
+    let e = upto-none (kidLeaves rs left q) in
+    record { split = h; few = omega arith; place = rw e (omega arith); bytes = rw e }
+
+module _ (rs : List Record) (left : ℕ) (q : Cube) (d : List ℕ) (at : ℕ) (out : List ℕ) (next k : ℕ) (w : Writing rs left q d at out next k) where
+  abbrev kids : ℕ → List Leaf
+  kids = kidLeaves rs left q
+
+  all : leavesBelow rs left q ≡ upto kids 8
+  all = leaves-split rs left q (w .split .deep) (w .split .gray)
+
+  pub writing-length : length out ≡ length d
+  writing-length = ap length (w .bytes) ∙ length-sets d at (leavesBytes (upto kids k))
+
+  pub writing-all : 8 ≤ k → Put (leavesBelow rs left q) d at next out
+  writing-all h =
+      let e : k ≡ 8 = omega (arith, w .few) in
+      rw all (rw e at (w .place), rw e at (w .bytes))
+
+  module _ (more : k < 8) (child : Cube) (is : child ≡ childOf q k) where
+    leaves-are : leavesBelow rs (left - 1) child ≡ kids k
+    leaves-are = ap (leavesBelow rs (left - 1)) is ∙ sym (kid-leaves rs left q k)
+
+    pub child-room : at + 3 * length (leavesBelow rs left q) ≤ length d → next + 3 * length (leavesBelow rs (left - 1) child) ≤ length out
+    child-room h =
+        omega (arith, w .place, writing-length, ap length leaves-are, upto-length kids k, upto-most kids (k + 1) 8 (omega arith), ap length all)
+
+    pub writing-next : (r : ℕ) (after : List ℕ) → Put (leavesBelow rs (left - 1) child) out next r after → Writing rs left q d at after r (k + 1)
+    writing-next r after h =
+        let p : Put (kids k) out next r after = rw leaves-are at h in
+        record {
+          split = w .split;
+          few = omega arith;
+          place = omega (arith, w .place, p .0, upto-length kids k);
+          bytes =
+              p .1
+              ∙ ap (λ (b : List ℕ). sets b next (leavesBytes (kids k))) (w .bytes)
+              ∙ sets-append d at next (leavesBytes (upto kids k)) (leavesBytes (kids k)) (omega (arith, w .place, leaves-bytes-length (upto kids k)))
+              ∙ ap (sets d at) (sym (leaves-bytes-append (upto kids k) (kids k)) ∙ ap leavesBytes (sym (upto-more kids k)));
+        }

@@ -1,0 +1,23 @@
+-- `building::leaves::put` meets its contract.
+use borrow.Author.Needs.{needs}
+use Rattle.building.proofs.leaves.put.Statement.{statement}
+use Rattle.building.proofs.leaves.put.Tie as tie
+
+class-requires : tie.Need-class-requires
+class-requires c κs = search needs
+
+face-requires : tie.Need-face-requires
+face-requires c κs = search needs
+
+put-leaf-requires : tie.Need-put-leaf-requires
+put-leaf-requires c κs = search needs
+
+same-length : tie.Need-same-length
+same-length c = search needs
+
+returns : tie.Need-returns
+returns c =
+    rw (c .before .before .before .before .before .class .ensures, c .before .before .before .before .face .ensures) at (c .before .before .put-leaf .ensures)
+
+pub put-spec : {M : Type 1} → statement M
+put-spec = tie.close (tie.spec class-requires face-requires put-leaf-requires same-length returns)

@@ -1,0 +1,29 @@
+-- `building::leaves::solid_state` meets its contract: where no record passes the limit, the state is known.
+use Rattle.building.proofs.Cubes.{known-state, not-past}
+use borrow.Author.Needs.{needs}
+use Rattle.building.proofs.leaves.solid_state.Statement.{statement}
+use Rattle.building.proofs.leaves.solid_state.Tie as tie
+
+add-judge : tie.Need-add-judge
+add-judge c = search needs
+
+judge-requires : tie.Need-judge-requires
+judge-requires c κs = search needs
+
+enum-known-state : tie.Need-enum-known-state
+enum-known-state c = search needs
+
+enum-told : tie.Need-enum-told
+enum-told c = search needs
+
+returns : tie.Need-returns
+returns c =
+    known-state _ _ _ (c .before .before .before .before .before .before .pre .1 .0) _ (c .before .before .before .judge .ensures) _ (c .before .state .given .1)
+
+returns-2 : tie.Need-returns-2
+returns-2 c =
+    absurd (not-past _ _ _ (c .before .before .before .before .before .pre .1 .0) _ (c .before .before .judge .ensures) (c .before .before .before .before .before .pre .1 .1 .1) _ (c .enum-told .given .1))
+
+pub solid-state-spec : {M : Type 1} → statement M
+solid-state-spec =
+    tie.close (tie.spec add-judge judge-requires enum-known-state enum-told returns returns-2)

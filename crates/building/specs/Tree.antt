@@ -1,0 +1,18 @@
+-- The cubes of a tree, in order.
+use Prim.Native.Nat.{ℕ, zero, suc}
+use mathlib.Core.Bool.{Bool, cond}
+use mathlib.Core.List.{List, [], _++_}
+use Rattle.cube.specs.declared.Cube.{Cube}
+use Rattle.cube.specs.Cubes.{childOf}
+
+-- f 0, f 1 and so on, n of them, one after the other
+unfoldable pub upto : {A : Type 0} → (ℕ → List A) → ℕ → List A
+upto f zero = []
+upto f (suc n) = upto f n ++ f n
+
+-- A cube that is gray at a level less than d is split into eight children; every other cube is a leaf. What a split cube gives comes before what its
+-- children give, 0 to 7 in order; `left` is d minus the cube's level.
+module _ {A : Type 0} (isGray : Cube → Bool) (split leaf : Cube → List A) where
+  unfoldable pub visit : ℕ → Cube → List A
+  visit zero q = leaf q
+  visit (suc left) q = cond (isGray q) (split q ++ upto (λ k. visit left (childOf q k)) 8) (leaf q)

@@ -1,0 +1,69 @@
+// The public call: the replies in order of test, then the map.
+
+ghost use mathlib.Core.Path.{_≡_};
+ghost use Prim.Native.Nat.{_+_};
+ghost use mathlib.Core.Bool.{true};
+ghost use mathlib.Core.List.{[]};
+ghost use lib.ListN.{length};
+ghost use Rattle.sheet.specs.Records.{recordsOf};
+ghost use Rattle.records.specs.Offsets.{Offsets};
+ghost use Rattle.cube.specs.Limits.{inLimits};
+ghost use Rattle.cube.specs.Cubes.{rootCube};
+ghost use Rattle.colour.specs.Entries.{pastOf};
+ghost use Rattle.building.specs.Build.{outcome, builtMap, storedOf, overRootOf, buildOf};
+use crate::Reply;
+use crate::leaves;
+use colour::Judged;
+use cube::Root;
+use sheet::Checked;
+
+// Builds the zone map of a sheet over a root at the start of `out`; where it refuses, `out` stays as it is.
+pub fn build(sheet: &[u8], x: i32, y: i32, z: i32, k: u8, d: u8, out: &mut [u8]) -> Reply
+    ensures { λ r. ⌜ outcome r (now (out .exit)) ≡ buildOf (now (sheet .entry)) (record { x = x; y = y; z = z; k = k; d = d }) (now (out .entry)) ⌝ }
+{
+    let root = Root { x, y, z, k, d };
+    match sheet::check(sheet) {
+        Checked::Good(n) => {
+            return over_root(sheet, (n - 1) as u8, root, out);
+        }
+        Checked::Refused(why) => {
+            return Reply::Sheet(why);
+        }
+    }
+}
+
+// Replies 6 and 7, and the rest. No reply 11 comes after them: what holds over the root holds over each smaller cube.
+fn over_root(sheet: &[u8], solid: u8, root: Root, out: &mut [u8]) -> Reply
+    requires { ⌜ solid + 1 ≡ length (recordsOf (now sheet)) ⌝ }
+    ensures { λ r. ⌜ outcome r (now (out .exit)) ≡ overRootOf (recordsOf (now (sheet .entry))) root (now (out .entry)) ⌝ }
+{
+    if !root.is_within() {
+        return Reply::Limits;
+    }
+    let count = solid as usize + 1;
+    let mut offsets = [0u16; 256];
+    records::list_offsets(sheet, count, &mut offsets);
+    match colour::judge(sheet, &offsets, count, root.cube(), solid) {
+        Judged::Known(_) => {
+            return stored(sheet, &offsets, solid, root, out);
+        }
+        Judged::Past(n) => {
+            return Reply::OverRoot(n);
+        }
+    }
+}
+
+// Reply 8, and the map.
+fn stored(sheet: &[u8], offsets: &[u16], solid: u8, root: Root, out: &mut [u8]) -> Reply
+    requires { ⌜ Offsets (now offsets) (now sheet) ⌝ ∗ ⌜ solid + 1 ≡ length (recordsOf (now sheet)) ⌝ ∗ ⌜ inLimits root ≡ true ⌝ ∗ ⌜ pastOf (recordsOf (now sheet)) (rootCube root) ≡ [] ⌝ }
+    ensures { λ r. ⌜ outcome r (now (out .exit)) ≡ storedOf (builtMap (recordsOf (now (sheet .entry))) root) (now (out .entry)) ⌝ }
+{
+    let n = leaves::count(sheet, offsets, solid, root.cube(), root.d);
+    let need = 19 + 3 * n;
+    if out.len() < need {
+        return Reply::Short(need);
+    }
+    zonemap::put_header(out, root, n as u32);
+    let _end = leaves::write(sheet, offsets, out, 19, solid, root.cube(), root.d);
+    Reply::Done(need)
+}

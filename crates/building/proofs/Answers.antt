@@ -18,8 +18,8 @@ use Rattle.cube.specs.Limits.{inLimits}
 use Rattle.cube.specs.Cubes.{rootCube}
 use Rattle.building.specs.declared.Reply.{Reply}
 use Rattle.building.specs.declared.Reply.the-variants.{Done, Sheet, Limits, OverRoot, OverSmaller, Short}
-use Rattle.colour.specs.Entries.{pastOf}
-use Rattle.building.specs.Solid.{pastsOf}
+use Rattle.colour.specs.Entries.{firstPast}
+use Rattle.building.specs.Solid.{pastInTree}
 use Rattle.integers.specs.First.{onFirst}
 use Rattle.integers.proofs.First.{none-first}
 use Rattle.building.specs.Build.{Outcome, outcome, builtMap, storedOf, overRootOf, onSheet, buildOf, numberOf}
@@ -53,14 +53,14 @@ module _ (n : ℕ) (out after : List ℕ) where
   -- the map of these records over this root stands at the start of the buffer
   pub record Made (rs : List Record) (root : Root) : Type 0 where
     pub within : inLimits root ≡ true
-    pub none : pastOf rs (rootCube root) ≡ []
-    pub below : pastsOf rs (root .d) (rootCube root) ≡ []
+    pub none : firstPast rs (rootCube root) ≡ []
+    pub below : pastInTree rs (root .d) (rootCube root) ≡ []
     pub size : n ≡ length (builtMap rs root)
     pub room : n ≤ length out
     pub bytes : after ≡ builtMap rs root ++ drop (length (builtMap rs root)) out
 
   module _ (rs : List Record) (root : Root) where
-    stored-made : inLimits root ≡ true → pastOf rs (rootCube root) ≡ [] → (pastsOf rs (root .d) (rootCube root) ≡ []) × (done ≡ storedOf (builtMap rs root) out) → Made rs root
+    stored-made : inLimits root ≡ true → firstPast rs (rootCube root) ≡ [] → (pastInTree rs (root .d) (rootCube root) ≡ []) × (done ≡ storedOf (builtMap rs root) out) → Made rs root
     stored-made w p e =
         let t = stored (builtMap rs root) (e .1) in
         record { within = w; none = p; below = e .0; size = t .0; room = omega (arith, t .0, t .1); bytes = t .2 }
@@ -70,8 +70,8 @@ module _ (n : ℕ) (out after : List ℕ) where
     solid-made e =
         by-test (inLimits root)
         (λ h.
-        let p = not-first (pastOf rs (rootCube root)) (λ k. outcome (OverRoot k) out) _ (λ k. refl) (rw h at e) in
-        stored-made h (p .0) (not-first (pastsOf rs (root .d) (rootCube root)) (λ k. outcome (OverSmaller k) out) _ (λ k. refl) (p .1)))
+        let p = not-first (firstPast rs (rootCube root)) (λ k. outcome (OverRoot k) out) _ (λ k. refl) (rw h at e) in
+        stored-made h (p .0) (not-first (pastInTree rs (root .d) (rootCube root)) (λ k. outcome (OverSmaller k) out) _ (λ k. refl) (p .1)))
         (λ h. no-other (outcome Limits out) refl (rw h at e))
 
 module _ (s : List ℕ) (root : Root) (out after : List ℕ) (n : ℕ) where

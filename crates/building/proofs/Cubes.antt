@@ -17,12 +17,12 @@ use Rattle.cube.proofs.Cubes.{child-inside}
 use Rattle.colour.specs.declared.State.{State}
 use Rattle.colour.specs.declared.Judged.{Judged}
 use Rattle.colour.specs.declared.Judged.the-variants.{Known, Past}
-use Rattle.colour.specs.Entries.{blank, entries, judgedOf, pastOf}
+use Rattle.colour.specs.Entries.{blank, entries, judgedOf, firstPast}
 use Rattle.colour.specs.States.{classOf}
 use Rattle.colour.proofs.Told.{known-is, past-first}
 use Rattle.colour.proofs.Smaller.{none-smaller}
 use Rattle.building.specs.Tree.{upto}
-use Rattle.building.specs.Solid.{solidState, isGray, leafOf, leavesBelow, pastsOf}
+use Rattle.building.specs.Solid.{solidState, isGray, leafOf, leavesBelow, pastInTree}
 use Rattle.building.proofs.Tree.{kid, upto-nothing, visit-end, visit-flat, visit-gray, visit-most}
 
 -- a cube that is split
@@ -36,15 +36,15 @@ module _ (rs : List Record) where
   kidLeaves = kid (isGray rs) (λ q. []) (λ q. leafOf rs q ∷ [])
 
   abbrev pub kidPasts : ℕ → Cube → ℕ → List ℕ
-  kidPasts = kid (isGray rs) (pastOf rs) (pastOf rs)
+  kidPasts = kid (isGray rs) (firstPast rs) (firstPast rs)
 
   module _ (left : ℕ) (q : Cube) where
     pub kid-leaves : (k : ℕ) → kidLeaves left q k ≡ leavesBelow rs (left - 1) (childOf q k)
     unfolding leavesBelow
     kid-leaves k = refl
 
-    pub kid-pasts : (k : ℕ) → kidPasts left q k ≡ pastsOf rs (left - 1) (childOf q k)
-    unfolding pastsOf
+    pub kid-pasts : (k : ℕ) → kidPasts left q k ≡ pastInTree rs (left - 1) (childOf q k)
+    unfolding pastInTree
     kid-pasts k = refl
 
     -- a cube that is split
@@ -53,9 +53,9 @@ module _ (rs : List Record) where
       unfolding leavesBelow
       leaves-split = visit-gray (isGray rs) (λ q. []) (λ q. leafOf rs q ∷ []) left q l g
 
-      pub pasts-split : pastsOf rs left q ≡ pastOf rs q ++ upto (kidPasts left q) 8
-      unfolding pastsOf
-      pasts-split = visit-gray (isGray rs) (pastOf rs) (pastOf rs) left q l g
+      pub pasts-split : pastInTree rs left q ≡ firstPast rs q ++ upto (kidPasts left q) 8
+      unfolding pastInTree
+      pasts-split = visit-gray (isGray rs) (firstPast rs) (firstPast rs) left q l g
 
     -- a cube that is not
     pub leaves-end : left ≡ 0 → leavesBelow rs left q ≡ leafOf rs q ∷ []
@@ -66,24 +66,24 @@ module _ (rs : List Record) where
     unfolding leavesBelow
     leaves-flat e = visit-flat (isGray rs) (λ q. []) (λ q. leafOf rs q ∷ []) left q e
 
-    pub pasts-end : left ≡ 0 → pastsOf rs left q ≡ pastOf rs q
-    unfolding pastsOf
-    pasts-end e = visit-end (isGray rs) (pastOf rs) (pastOf rs) left q e
+    pub pasts-end : left ≡ 0 → pastInTree rs left q ≡ firstPast rs q
+    unfolding pastInTree
+    pasts-end e = visit-end (isGray rs) (firstPast rs) (firstPast rs) left q e
 
-    pub pasts-flat : isGray rs q ≡ false → pastsOf rs left q ≡ pastOf rs q
-    unfolding pastsOf
-    pasts-flat e = visit-flat (isGray rs) (pastOf rs) (pastOf rs) left q e
+    pub pasts-flat : isGray rs q ≡ false → pastInTree rs left q ≡ firstPast rs q
+    unfolding pastInTree
+    pasts-flat e = visit-flat (isGray rs) (firstPast rs) (firstPast rs) left q e
 
     pub leaves-few : left ≤ 10 → length (leavesBelow rs left q) ≤ 2 ^ 30
     unfolding leavesBelow
     leaves-few h = le-trans (visit-most (isGray rs) (λ q. []) (λ q. leafOf rs q ∷ []) (λ q. refl) (λ q. refl) left q) (pow-le-pow-right (zero-lt-suc 7) h)
 
   -- ---- the limit
-  pub child-none : (q : Cube) → pastOf rs q ≡ [] → (k : ℕ) → pastOf rs (childOf q k) ≡ []
+  pub child-none : (q : Cube) → firstPast rs q ≡ [] → (k : ℕ) → firstPast rs (childOf q k) ≡ []
   child-none q none k = none-smaller (childOf q k) q (child-inside q k) rs none
 
   -- reply 11 cannot be given
-  pub none-below : (left : ℕ) (q : Cube) → pastOf rs q ≡ [] → pastsOf rs left q ≡ []
+  pub none-below : (left : ℕ) (q : Cube) → firstPast rs q ≡ [] → pastInTree rs left q ≡ []
   none-below zero q none = pasts-end zero q refl ∙ none
   none-below (suc left) q none =
       by-test (isGray rs q)
@@ -99,7 +99,7 @@ module _ (rs : List Record) where
     known-state state k =
         known-is rs q q refl solid j e state k ∙ ap (λ (n : ℕ). getD (entries q rs) n blank .state) (let z : solid ≡ length rs - 1 = omega arith in z)
 
-    pub not-past : pastOf rs q ≡ [] → (n : ℕ) → j ≡ Past n → ⊥
+    pub not-past : firstPast rs q ≡ [] → (n : ℕ) → j ≡ Past n → ⊥
     not-past none n k =
         let z : [] ≡ n ∷ [] = sym none ∙ past-first rs q q refl solid j e n k in
         let y : _≡_ {A = ℕ} 0 1 = ap length z in omega arith

@@ -20,7 +20,7 @@ use Rattle.cube.specs.declared.Cube.{Cube}
 use Rattle.cube.specs.Limits.{inLimits}
 use Rattle.cube.specs.Cubes.{rootCube}
 use Rattle.cube.proofs.Limits.{limits-sizes}
-use Rattle.colour.specs.Entries.{pastOf}
+use Rattle.colour.specs.Entries.{firstPast}
 use Rattle.zonemap.specs.declared.Leaf.{Leaf}
 use Rattle.zonemap.specs.Map.{headerOf, leavesBytes, mapOf}
 use Rattle.zonemap.proofs.Bytes.{header-length, map-length}
@@ -61,12 +61,12 @@ module _ (rs : List Record) (root : Root) (d : List ℕ) where
 
   module _ (within : inLimits root ≡ true) where
     -- ---- reply 7
-    pub over-root : (n : ℕ) → pastOf rs top ≡ n ∷ [] → outcome (OverRoot n) d ≡ overRootOf rs root d
+    pub over-root : (n : ℕ) → firstPast rs top ≡ n ∷ [] → outcome (OverRoot n) d ≡ overRootOf rs root d
     unfolding overRootOf
     over-root n h = rw (within, h)
 
     -- ---- reply 11 does not come
-    pub no-smaller : pastOf rs top ≡ [] → (o : Outcome) → o ≡ storedOf (builtMap rs root) d → o ≡ overRootOf rs root d
+    pub no-smaller : firstPast rs top ≡ [] → (o : Outcome) → o ≡ storedOf (builtMap rs root) d → o ≡ overRootOf rs root d
     unfolding overRootOf
     no-smaller none o e = rw (within, none, none-below rs (root .d) top none) e
 

@@ -25,12 +25,12 @@ use Rattle.cube.specs.Cubes.{rootCube, childOf}
 use Rattle.colour.specs.Bounds.{across, boundsOf}
 use Rattle.colour.specs.declared.State.the-variants.{In, Out, Single}
 use Rattle.colour.specs.States.{faceState, bothOf, stateOf}
-use Rattle.colour.specs.Entries.{Entry, blank, entryOf, entries, beforePast, pastOf}
+use Rattle.colour.specs.Entries.{Entry, blank, entryOf, entries, beforePast, firstPast}
 use Rattle.zonemap.specs.declared.Leaf.{Leaf}
 use Rattle.zonemap.specs.Map.{leafBytes, leavesBytes, cornerBytes, headerOf, mapOf}
 use Rattle.zonemap.specs.StepRoom.{stepRoot, stepMap}
 use Rattle.building.specs.Tree.{upto, visit}
-use Rattle.building.specs.Solid.{solidState, isGray, leafOf, leavesBelow, pastsOf}
+use Rattle.building.specs.Solid.{solidState, isGray, leafOf, leavesBelow, pastInTree}
 use Rattle.building.proofs.Cubes.{leaves-flat}
 use Rattle.building.specs.Build.{builtMap, storedOf, overRootOf, buildOf}
 
@@ -62,18 +62,18 @@ map-1 = ap (mapOf (stepRoot 1)) depth-1
 -- ---- what building answers
 -- the root is in its limits, and no record passes the limit
 abbrev Plain : ℕ → Type 0
-Plain d = (inLimits (stepRoot d) ≡ true) × (pastOf stepRecords (rootCube (stepRoot d)) ≡ []) × (pastsOf stepRecords d (rootCube (stepRoot d)) ≡ [])
+Plain d = (inLimits (stepRoot d) ≡ true) × (firstPast stepRecords (rootCube (stepRoot d)) ≡ []) × (pastInTree stepRecords d (rootCube (stepRoot d)) ≡ [])
 
 plain-0 : Plain 0
-unfolding inLimits sizesFit axisFits pastOf pastsOf visit upto isGray solidState along onward entryOf boundsOf stateOf across sum difference faceState bothOf rootCube childOf beforePast isWithin isSmall
+unfolding inLimits sizesFit axisFits firstPast pastInTree visit upto isGray solidState along onward entryOf boundsOf stateOf across sum difference faceState bothOf rootCube childOf beforePast isWithin isSmall
 plain-0 = (refl, refl, refl)
 
 plain-1 : Plain 1
-unfolding inLimits sizesFit axisFits pastOf pastsOf visit upto isGray solidState along onward entryOf boundsOf stateOf across sum difference faceState bothOf rootCube childOf beforePast isWithin isSmall
+unfolding inLimits sizesFit axisFits firstPast pastInTree visit upto isGray solidState along onward entryOf boundsOf stateOf across sum difference faceState bothOf rootCube childOf beforePast isWithin isSmall
 plain-1 = (refl, refl, refl)
 
 plain-2 : Plain 2
-unfolding inLimits sizesFit axisFits pastOf pastsOf visit upto isGray solidState along onward entryOf boundsOf stateOf across sum difference faceState bothOf rootCube childOf beforePast isWithin isSmall
+unfolding inLimits sizesFit axisFits firstPast pastInTree visit upto isGray solidState along onward entryOf boundsOf stateOf across sum difference faceState bothOf rootCube childOf beforePast isWithin isSmall
 plain-2 = (refl, refl, refl)
 
 step-build : (d : ℕ) → Plain d → (out : List ℕ) → buildOf stepSheet (stepRoot d) out ≡ storedOf (builtMap stepRecords (stepRoot d)) out

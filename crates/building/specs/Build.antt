@@ -16,8 +16,8 @@ use Rattle.cube.specs.Cubes.{rootCube}
 use Rattle.zonemap.specs.Map.{mapOf}
 use Rattle.building.specs.declared.Reply.{Reply}
 use Rattle.building.specs.declared.Reply.the-variants.{Done, Sheet, Limits, OverRoot, OverSmaller, Short}
-use Rattle.colour.specs.Entries.{pastOf}
-use Rattle.building.specs.Solid.{leavesBelow, pastsOf}
+use Rattle.colour.specs.Entries.{firstPast}
+use Rattle.building.specs.Solid.{leavesBelow, pastInTree}
 
 -- the reply, and the bytes of the lent buffer afterwards
 pub record Outcome : Type 0 where
@@ -41,8 +41,8 @@ storedOf map out =
 unfoldable pub overRootOf : List Record → Root → List ℕ → Outcome
 overRootOf rs root out =
     cond (not (inLimits root)) (outcome Limits out)
-    (onFirst (pastOf rs (rootCube root)) (λ n. outcome (OverRoot n) out)
-    (onFirst (pastsOf rs (root .d) (rootCube root)) (λ n. outcome (OverSmaller n) out)
+    (onFirst (firstPast rs (rootCube root)) (λ n. outcome (OverRoot n) out)
+    (onFirst (pastInTree rs (root .d) (rootCube root)) (λ n. outcome (OverSmaller n) out)
     (storedOf (builtMap rs root) out)))
 
 -- replies 1 to 5

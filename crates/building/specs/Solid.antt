@@ -8,7 +8,7 @@ use Rattle.sheet.specs.declared.Record.{Record}
 use Rattle.cube.specs.declared.Cube.{Cube}
 use Rattle.colour.specs.declared.State.{State}
 use Rattle.colour.specs.States.{classOf, faceOf}
-use Rattle.colour.specs.Entries.{blank, entries, pastOf}
+use Rattle.colour.specs.Entries.{blank, entries, firstPast}
 use Rattle.zonemap.specs.declared.Leaf.{Leaf}
 use Rattle.building.specs.Tree.{visit}
 
@@ -32,5 +32,5 @@ unfoldable pub leavesBelow : List Record → ℕ → Cube → List Leaf
 leavesBelow rs = visit (isGray rs) (λ q. []) (λ q. leafOf rs q ∷ [])
 
 -- the first records whose bounds pass 2^60, of all cubes, a cube before its children
-unfoldable pub pastsOf : List Record → ℕ → Cube → List ℕ
-pastsOf rs = visit (isGray rs) (pastOf rs) (pastOf rs)
+unfoldable pub pastInTree : List Record → ℕ → Cube → List ℕ
+pastInTree rs = visit (isGray rs) (firstPast rs) (firstPast rs)

@@ -9,7 +9,7 @@ ghost use Rattle.sheet.specs.Records.{recordsOf};
 ghost use Rattle.records.specs.Offsets.{Offsets};
 ghost use Rattle.cube.specs.Limits.{inLimits};
 ghost use Rattle.cube.specs.Cubes.{rootCube};
-ghost use Rattle.colour.specs.Entries.{pastOf};
+ghost use Rattle.colour.specs.Entries.{firstPast};
 ghost use Rattle.building.specs.Build.{outcome, builtMap, storedOf, overRootOf, buildOf};
 use crate::Reply;
 use crate::leaves;
@@ -55,7 +55,7 @@ fn over_root(sheet: &[u8], solid: u8, root: Root, out: &mut [u8]) -> Reply
 
 // Reply 8, and the map.
 fn stored(sheet: &[u8], offsets: &[u16], solid: u8, root: Root, out: &mut [u8]) -> Reply
-    requires { ⌜ Offsets (now offsets) (now sheet) ⌝ ∗ ⌜ solid + 1 ≡ length (recordsOf (now sheet)) ⌝ ∗ ⌜ inLimits root ≡ true ⌝ ∗ ⌜ pastOf (recordsOf (now sheet)) (rootCube root) ≡ [] ⌝ }
+    requires { ⌜ Offsets (now offsets) (now sheet) ⌝ ∗ ⌜ solid + 1 ≡ length (recordsOf (now sheet)) ⌝ ∗ ⌜ inLimits root ≡ true ⌝ ∗ ⌜ firstPast (recordsOf (now sheet)) (rootCube root) ≡ [] ⌝ }
     ensures { λ r. ⌜ outcome r (now (out .exit)) ≡ storedOf (builtMap (recordsOf (now (sheet .entry))) root) (now (out .entry)) ⌝ }
 {
     let n = leaves::count(sheet, offsets, solid, root.cube(), root.d);

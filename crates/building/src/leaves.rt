@@ -9,7 +9,7 @@ ghost use lib.Seq.{sets};
 ghost use Rattle.sheet.specs.Records.{recordsOf};
 ghost use Rattle.records.specs.Offsets.{Offsets};
 ghost use Rattle.cube.specs.Limits.{Near};
-ghost use Rattle.colour.specs.Entries.{pastOf};
+ghost use Rattle.colour.specs.Entries.{firstPast};
 ghost use Rattle.zonemap.specs.Map.{leafBytes, leavesBytes};
 ghost use Rattle.building.specs.Solid.{solidState, leafBy, leavesBelow};
 use colour::Judged;
@@ -19,7 +19,7 @@ use zonemap::Leaf;
 
 // The solid's state over a cube. As no record's bounds pass the limit there, the second arm is never met.
 fn solid_state(s: &[u8], offsets: &[u16], solid: u8, q: Cube) -> State
-    requires { ⌜ Offsets (now offsets) (now s) ⌝ ∗ ⌜ solid + 1 ≡ length (recordsOf (now s)) ⌝ ∗ ⌜ Near 0 q ⌝ ∗ ⌜ pastOf (recordsOf (now s)) q ≡ [] ⌝ }
+    requires { ⌜ Offsets (now offsets) (now s) ⌝ ∗ ⌜ solid + 1 ≡ length (recordsOf (now s)) ⌝ ∗ ⌜ Near 0 q ⌝ ∗ ⌜ firstPast (recordsOf (now s)) q ≡ [] ⌝ }
     ensures { λ r. ⌜ r ≡ solidState (recordsOf (now (s .entry))) q ⌝ }
 {
     match colour::judge(s, offsets, solid as usize + 1, q, solid) {
@@ -30,7 +30,7 @@ fn solid_state(s: &[u8], offsets: &[u16], solid: u8, q: Cube) -> State
 
 // The number of leaves below a cube. At the last level a cube is one leaf, whatever its colour.
 pub fn count(s: &[u8], offsets: &[u16], solid: u8, q: Cube, left: u8) -> usize
-    requires { ⌜ Offsets (now offsets) (now s) ⌝ ∗ ⌜ solid + 1 ≡ length (recordsOf (now s)) ⌝ ∗ ⌜ Near left q ⌝ ∗ ⌜ pastOf (recordsOf (now s)) q ≡ [] ⌝ }
+    requires { ⌜ Offsets (now offsets) (now s) ⌝ ∗ ⌜ solid + 1 ≡ length (recordsOf (now s)) ⌝ ∗ ⌜ Near left q ⌝ ∗ ⌜ firstPast (recordsOf (now s)) q ≡ [] ⌝ }
     ensures { λ r. ⌜ r ≡ length (leavesBelow (recordsOf (now (s .entry))) left q) ⌝ }
 {
     if left == 0 {
@@ -73,7 +73,7 @@ pub fn write(
     q: Cube,
     left: u8,
 ) -> usize
-    requires { ⌜ Offsets (now offsets) (now s) ⌝ ∗ ⌜ solid + 1 ≡ length (recordsOf (now s)) ⌝ ∗ ⌜ Near left q ⌝ ∗ ⌜ pastOf (recordsOf (now s)) q ≡ [] ⌝ ∗ ⌜ at + 3 * length (leavesBelow (recordsOf (now s)) left q) ≤ length (now out) ⌝ }
+    requires { ⌜ Offsets (now offsets) (now s) ⌝ ∗ ⌜ solid + 1 ≡ length (recordsOf (now s)) ⌝ ∗ ⌜ Near left q ⌝ ∗ ⌜ firstPast (recordsOf (now s)) q ≡ [] ⌝ ∗ ⌜ at + 3 * length (leavesBelow (recordsOf (now s)) left q) ≤ length (now out) ⌝ }
     ensures { λ r. ⌜ (r ≡ at + 3 * length (leavesBelow (recordsOf (now (s .entry))) left q)) × (now (out .exit) ≡ sets (now (out .entry)) at (leavesBytes (leavesBelow (recordsOf (now (s .entry))) left q))) ⌝ }
 {
     let state = solid_state(s, offsets, solid, q);

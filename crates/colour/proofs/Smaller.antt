@@ -20,7 +20,7 @@ use Rattle.sheet.proofs.Along.{Pairs, related, length-along}
 use Rattle.cube.specs.declared.Cube.{Cube}
 use Rattle.cube.specs.Points.{CubeInside}
 use Rattle.colour.specs.Bounds.{across, boundsOf}
-use Rattle.colour.specs.Entries.{Entry, blank, entryOf, entries, beforePast, pastOf}
+use Rattle.colour.specs.Entries.{Entry, blank, entryOf, entries, beforePast, firstPast}
 use Rattle.colour.proofs.FirstPast.{Keep, none-past, all-keep}
 
 across-inside : (a b : ℤ) (n m : ℕ) → b ≤ℤ a → (a +ℤ pos n) ≤ℤ (b +ℤ pos m) → Inside (across a n) (across b m)
@@ -66,17 +66,17 @@ inside-small i j h s =
     }
 
 -- no record passes the limit exactly where all entries keep it
-pub none-keep : (rs : List Record) (q : Cube) → pastOf rs q ≡ [] → Keep (entries q rs)
-unfolding pastOf
+pub none-keep : (rs : List Record) (q : Cube) → firstPast rs q ≡ [] → Keep (entries q rs)
+unfolding firstPast
 none-keep rs q e =
     by-test (ltb (beforePast (entries q rs)) (length rs))
     (λ t. let z : (beforePast (entries q rs) ∷ []) ≡ [] = rw t at e in let y : _≡_ {A = ℕ} 0 1 = cc in absurd (omega arith))
     (λ t. all-keep (entries q rs) (omega (arith, ltb-false (beforePast (entries q rs)) (length rs) t, length-along (entryOf q) rs)))
 
-pub keep-none : (rs : List Record) (q : Cube) → Keep (entries q rs) → pastOf rs q ≡ []
-unfolding pastOf
+pub keep-none : (rs : List Record) (q : Cube) → Keep (entries q rs) → firstPast rs q ≡ []
+unfolding firstPast
 keep-none rs q k =
     rw (le-ltb (beforePast (entries q rs)) (length rs) (omega (arith, none-past (entries q rs) k, length-along (entryOf q) rs)))
 
-pub none-smaller : (q outer : Cube) → CubeInside q outer → (rs : List Record) → pastOf rs outer ≡ [] → pastOf rs q ≡ []
+pub none-smaller : (q outer : Cube) → CubeInside q outer → (rs : List Record) → firstPast rs outer ≡ [] → firstPast rs q ≡ []
 none-smaller q outer h rs e = keep-none rs q (λ a. inside-small _ _ (bounds-inside q outer h rs a) (none-keep rs outer e a))

@@ -11,7 +11,7 @@ use Rattle.cube.specs.declared.Cube.{Cube}
 use Rattle.colour.specs.declared.State.{State}
 use Rattle.colour.specs.declared.Judged.{Judged}
 use Rattle.colour.specs.declared.Judged.the-variants.{Known, Past}
-use Rattle.colour.specs.Entries.{blank, entries, beforePast, judgedOf, pastOf}
+use Rattle.colour.specs.Entries.{blank, entries, beforePast, judgedOf, firstPast}
 
 -- q, the cube that was judged, is the one that is spoken of
 module _ (rs : List Record) (of q : Cube) (is : q ≡ of) (which : ℕ) (j : Judged) (e : j ≡ judgedOf rs q which) where
@@ -19,17 +19,17 @@ module _ (rs : List Record) (of q : Cube) (is : q ≡ of) (which : ℕ) (j : Jud
   asked = getD (entries of rs) which blank .state
 
   -- the two cases
-  pub cases : {A : Type 0} → (pastOf rs of ≡ [] → j ≡ Known asked → A) → ((n : ℕ) → pastOf rs of ≡ n ∷ [] → j ≡ Past n → A) → A
-  unfolding judgedOf pastOf
+  pub cases : {A : Type 0} → (firstPast rs of ≡ [] → j ≡ Known asked → A) → ((n : ℕ) → firstPast rs of ≡ n ∷ [] → j ≡ Past n → A) → A
+  unfolding judgedOf firstPast
   cases f g =
       let t = e ∙ ap (λ (k : Cube). judgedOf rs k which) is in
       by-test (ltb (beforePast (entries of rs)) (length rs)) (λ b. g (beforePast (entries of rs)) (rw b) (t ∙ rw b)) (λ b. f (rw b) (t ∙ rw b))
 
-  pub known-none : (state : State) → j ≡ Known state → pastOf rs of ≡ []
+  pub known-none : (state : State) → j ≡ Known state → firstPast rs of ≡ []
   known-none state k = cases (λ p i. p) (λ n p i. let z : _≡_ {A = ℕ} 0 1 = cc in absurd (omega arith))
 
   pub known-is : (state : State) → j ≡ Known state → state ≡ asked
   known-is state k = cases (λ p i. cc) (λ n p i. let z : _≡_ {A = ℕ} 0 1 = cc in absurd (omega arith))
 
-  pub past-first : (n : ℕ) → j ≡ Past n → pastOf rs of ≡ n ∷ []
+  pub past-first : (n : ℕ) → j ≡ Past n → firstPast rs of ≡ n ∷ []
   past-first n k = cases (λ p i. let z : _≡_ {A = ℕ} 0 1 = cc in absurd (omega arith)) (λ m p i. p ∙ ap (λ (x : ℕ). x ∷ []) (let z : m ≡ n = cc in z))

@@ -51,5 +51,5 @@ judgedOf rs q n =
     cond (ltb (beforePast (entries q rs)) (length rs)) (Past (beforePast (entries q rs))) (Known (getD (entries q rs) n blank .state))
 
 -- the first record whose bounds over a cube pass 2^60, where one does
-unfoldable pub pastOf : List Record → Cube → List ℕ
-pastOf rs q = cond (ltb (beforePast (entries q rs)) (length rs)) (beforePast (entries q rs) ∷ []) []
+unfoldable pub firstPast : List Record → Cube → List ℕ
+firstPast rs q = cond (ltb (beforePast (entries q rs)) (length rs)) (beforePast (entries q rs) ∷ []) []

@@ -22,7 +22,7 @@ use Rattle.cube.proofs.InRoot.{in-root, root-holds}
 use Rattle.meaning.specs.Fractions.{whole}
 use Rattle.meaning.specs.Truth.{holdsAt, inSolid}
 use Rattle.meaning.proofs.Whole.{held-closed}
-use Rattle.colour.specs.Entries.{pastOf}
+use Rattle.colour.specs.Entries.{firstPast}
 use Rattle.colour.proofs.Smaller.{none-keep, keep-none}
 use Rattle.zonemap.specs.declared.Leaf.{Leaf}
 use Rattle.zonemap.specs.Opening.{rootOf, faultOf}
@@ -63,7 +63,7 @@ module _ (sheet map : List ℕ) (p : Point) where
   unfolding mapReply
   map-looks-up g e =
       let opened = none-first Answers Map _ (faultOf (hasFace rs) map) (λ at z. omega arith) e in
-      let over = none-first Answers OverRoot _ (pastOf rs (rootCube (rootOf map))) (λ at z. omega arith) (opened .1) in
+      let over = none-first Answers OverRoot _ (firstPast rs (rootCube (rootOf map))) (λ at z. omega arith) (opened .1) in
       by-test (holdsPoint (rootCube (rootOf map)) p)
       (λ t. record {
         good = g;

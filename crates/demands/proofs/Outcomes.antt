@@ -17,11 +17,11 @@ use Rattle.cube.specs.declared.Root.{Root}
 use Rattle.cube.specs.Limits.{inLimits}
 use Rattle.cube.specs.Cubes.{rootCube}
 use Rattle.cube.proofs.Numbers.{within-limits, limits-within, out-of-limits}
-use Rattle.colour.specs.Entries.{pastOf}
+use Rattle.colour.specs.Entries.{firstPast}
 use Rattle.colour.proofs.Smaller.{none-keep, keep-none}
 use Rattle.building.specs.declared.Reply.{Reply}
 use Rattle.building.specs.declared.Reply.the-variants.{Done, Sheet, Limits, OverRoot, OverSmaller, Short}
-use Rattle.building.specs.Solid.{pastsOf}
+use Rattle.building.specs.Solid.{pastInTree}
 use Rattle.building.specs.Build.{Outcome, outcome, builtMap, storedOf, overRootOf, onSheet, buildOf, codeOf, numberOf}
 use Rattle.building.proofs.Answers.{Made, done-made}
 use Rattle.zone.specs.declared.ZoneReply.{ZoneReply}
@@ -58,8 +58,8 @@ module _ (before : List ℕ) where
   solid-kept rs root =
       by-test (inLimits root)
       (λ t. rw t
-      (each-first Kept (λ n. outcome (OverRoot n) before) _ (pastOf rs (rootCube root)) (λ n _. refl)
-      (each-first Kept (λ n. outcome (OverSmaller n) before) _ (pastsOf rs (root .d) (rootCube root)) (λ n _. refl)
+      (each-first Kept (λ n. outcome (OverRoot n) before) _ (firstPast rs (rootCube root)) (λ n _. refl)
+      (each-first Kept (λ n. outcome (OverSmaller n) before) _ (pastInTree rs (root .d) (rootCube root)) (λ n _. refl)
       (stored-kept (builtMap rs root)))))
       (λ t. rw t (λ _. refl))
 

@@ -15,9 +15,9 @@ use Rattle.cube.specs.declared.Point.{Point}
 use Rattle.cube.specs.Limits.{WithinLimits}
 use Rattle.cube.specs.Cubes.{rootCube}
 use Rattle.cube.specs.Points.{InRoot}
-use Rattle.colour.specs.Entries.{pastOf}
+use Rattle.colour.specs.Entries.{firstPast}
 use Rattle.zonemap.specs.Opening.{lengthGood, rootOf, leavesOf, faultOf, anyFace}
-use Rattle.building.specs.Solid.{pastsOf}
+use Rattle.building.specs.Solid.{pastInTree}
 use Rattle.building.specs.Build.{builtMap}
 use Rattle.zone.specs.Replies.{reply, zoneCheckOf, zoneBuildOf, zoneOpenOf, zoneLookupOf}
 use Rattle.demands.specs.Terms.{nthPlace, GoodSheet, GoodLeaf, Opens, KeepsLimit}
@@ -42,12 +42,12 @@ pub record BuildRows (sheet : List ℕ) (good : GoodSheet sheet) (root : Root) (
   -- root or depth out of limits
   pub row-6 : (WithinLimits root → ⊥) → zoneBuildOf sheet root before .reply ≡ reply 6 0
   -- a record's bounds over the root pass 2^60: the first such record
-  pub row-7 : WithinLimits root → (n : ℕ) → pastOf (recordsOf sheet) (rootCube root) ≡ n ∷ [] → zoneBuildOf sheet root before .reply ≡ reply 7 n
+  pub row-7 : WithinLimits root → (n : ℕ) → firstPast (recordsOf sheet) (rootCube root) ≡ n ∷ [] → zoneBuildOf sheet root before .reply ≡ reply 7 n
   -- a record's bounds over a smaller cube pass 2^60: the first such record of the first such cube, a cube before its children
-  pub row-11 : WithinLimits root → KeepsLimit (recordsOf sheet) (rootCube root) → (n : ℕ) (rest : List ℕ) → pastsOf (recordsOf sheet) (root .d) (rootCube root) ≡ n ∷ rest
+  pub row-11 : WithinLimits root → KeepsLimit (recordsOf sheet) (rootCube root) → (n : ℕ) (rest : List ℕ) → pastInTree (recordsOf sheet) (root .d) (rootCube root) ≡ n ∷ rest
       → zoneBuildOf sheet root before .reply ≡ reply 11 n
   -- lent buffer shorter than the map: bytes needed
-  pub row-8 : WithinLimits root → KeepsLimit (recordsOf sheet) (rootCube root) → pastsOf (recordsOf sheet) (root .d) (rootCube root) ≡ []
+  pub row-8 : WithinLimits root → KeepsLimit (recordsOf sheet) (rootCube root) → pastInTree (recordsOf sheet) (root .d) (rootCube root) ≡ []
       → length before < length (builtMap (recordsOf sheet) root) → zoneBuildOf sheet root before .reply ≡ reply 8 (length (builtMap (recordsOf sheet) root))
 
 -- of a good sheet, zone_lookup
@@ -55,7 +55,7 @@ pub record LookupRows (sheet : List ℕ) (good : GoodSheet sheet) (map : List �
   -- map doesn't open, or a terminal leaf names a record that isn't a face of the sheet: the offset of the first fault
   pub row-9 : (at : ℕ) → faultOf (hasFace (recordsOf sheet)) map ≡ at ∷ [] → zoneLookupOf sheet map p ≡ reply 9 at
   -- a record's bounds over the root pass 2^60: the first such record
-  pub row-7 : Opens (hasFace (recordsOf sheet)) map → (n : ℕ) → pastOf (recordsOf sheet) (rootCube (rootOf map)) ≡ n ∷ [] → zoneLookupOf sheet map p ≡ reply 7 n
+  pub row-7 : Opens (hasFace (recordsOf sheet)) map → (n : ℕ) → firstPast (recordsOf sheet) (rootCube (rootOf map)) ≡ n ∷ [] → zoneLookupOf sheet map p ≡ reply 7 n
   -- point not in the root, high planes left out
   pub row-10 : Opens (hasFace (recordsOf sheet)) map → KeepsLimit (recordsOf sheet) (rootCube (rootOf map)) → (InRoot (rootOf map) p → ⊥) → zoneLookupOf sheet map p ≡ reply 10 0
 

@@ -24,7 +24,7 @@ use Rattle.colour.specs.Entries.{blank, entries}
 use Rattle.zonemap.specs.declared.Leaf.{Leaf}
 use Rattle.zonemap.specs.Opening.{rootOf, leavesOf}
 use Rattle.zonemap.specs.Leaves.{placeAt, nowhere}
-use Rattle.building.specs.Solid.{pastsOf}
+use Rattle.building.specs.Solid.{pastInTree}
 use Rattle.building.specs.Build.{builtMap}
 use Rattle.zone.specs.declared.ZoneReply.{ZoneReply}
 use Rattle.zone.specs.Replies.{reply, zoneOutcome, zoneBuildOf}
@@ -114,7 +114,7 @@ pub record CanBuild (sheet : List ℕ) (root : Root) (before : List ℕ) : Type 
   pub good : GoodSheet sheet
   pub limits : WithinLimits root
   pub bounded : KeepsLimit (recordsOf sheet) (rootCube root)
-  pub bounded-below : pastsOf (recordsOf sheet) (root .d) (rootCube root) ≡ []
+  pub bounded-below : pastInTree (recordsOf sheet) (root .d) (rootCube root) ≡ []
   pub room : length (builtMap (recordsOf sheet) root) ≤ length before
 
 pub record CanLookUp (sheet map : List ℕ) (p : Point) : Type 0 where

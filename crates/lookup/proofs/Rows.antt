@@ -19,7 +19,7 @@ use Rattle.zonemap.specs.Opening.{lengthGood, rootOf, leafIn, leavesIn, levelGo
 use Rattle.zonemap.specs.StepRoom.{stepMap}
 use Rattle.colour.specs.Bounds.{across, boundsOf}
 use Rattle.colour.specs.States.{faceState, bothOf, stateOf}
-use Rattle.colour.specs.Entries.{entryOf, beforePast, pastOf}
+use Rattle.colour.specs.Entries.{entryOf, beforePast, firstPast}
 use Rattle.lookup.specs.declared.Answer.the-variants.{Outside, Inside, Undecided}
 use Rattle.lookup.specs.declared.Reply.the-variants.{Done, NotInRoot}
 use Rattle.lookup.specs.Lookup.{faceHolds, answerOf, leafHolding, mapReply, lookupOf}
@@ -34,8 +34,8 @@ unfolding faultOf headerFault lengthGood rootOf leavesFault leafGood levelGood f
 opens = refl
 
 -- no record passes the limit over its root
-none : pastOf stepRecords (rootCube (rootOf stepMap)) ≡ []
-unfolding pastOf beforePast along onward entryOf boundsOf across difference isWithin isSmall stateOf faceState bothOf rootCube rootOf unsignedAt signed32
+none : firstPast stepRecords (rootCube (rootOf stepMap)) ≡ []
+unfolding firstPast beforePast along onward entryOf boundsOf across difference isWithin isSmall stateOf faceState bothOf rootCube rootOf unsignedAt signed32
 none = refl
 
 -- so a point is out of the root, or its leaf answers

@@ -38,7 +38,7 @@ use Rattle.colour.specs.declared.State.{State}
 use Rattle.colour.specs.declared.Judged.{Judged}
 use Rattle.colour.specs.declared.Judged.the-variants.{Known, Past}
 use Rattle.colour.specs.States.{isIn}
-use Rattle.colour.specs.Entries.{judgedOf, pastOf}
+use Rattle.colour.specs.Entries.{judgedOf, firstPast}
 use Rattle.colour.proofs.Told.{known-is, past-first}
 use Rattle.colour.proofs.Smaller.{none-smaller}
 use Rattle.lookup.specs.declared.Answer.{Answer}
@@ -133,11 +133,11 @@ module _ (rs : List Record) (map : List ℕ) (opens : faultOf (hasFace rs) map �
           omega (arith, found-inside (hasFace rs) map (placeOrFirst root p) (opens-sizes (hasFace rs) map opens .0) (omega (arith, first-below map root (parts .0) is p)) (parts .1))
 
       -- ---- reply 7
-      pub over-root : (n : ℕ) → pastOf rs (rootCube root) ≡ n ∷ [] → OverRoot n ≡ mapReply rs map p
+      pub over-root : (n : ℕ) → firstPast rs (rootCube root) ≡ n ∷ [] → OverRoot n ≡ mapReply rs map p
       unfolding mapReply
       over-root n h = rw (opens, ← is, h)
 
-      module _ (none : pastOf rs (rootCube root) ≡ []) (q : Cube) (top : q ≡ rootCube root) (b : Bool) (held : b ≡ holdsPoint q p) where
+      module _ (none : firstPast rs (rootCube root) ≡ []) (q : Cube) (top : q ≡ rootCube root) (b : Bool) (held : b ≡ holdsPoint q p) where
         e : b ≡ holdsPoint (rootCube root) p
         e = holds-is root p q top b held
 
@@ -159,7 +159,7 @@ module _ (rs : List Record) (map : List ℕ) (opens : faultOf (hasFace rs) map �
 
 -- ---- the face of a terminal leaf
 module _ (rs : List Record) (root : Root) (p : Point) (h : Judgeable rs root p) where
-  none-there : pastOf rs (pointCube p) ≡ []
+  none-there : firstPast rs (pointCube p) ≡ []
   none-there = none-smaller (pointCube p) (rootCube root) (point-inside root p (h .inside)) rs (h .none)
 
   pub point-near-there : (q : Cube) → q ≡ pointCube p → Near 0 q

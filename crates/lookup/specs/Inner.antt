@@ -9,7 +9,7 @@ use Rattle.cube.specs.declared.Root.{Root}
 use Rattle.cube.specs.Limits.{inLimits}
 use Rattle.cube.specs.Cubes.{rootCube}
 use Rattle.cube.specs.Points.{holdsPoint, placeOf}
-use Rattle.colour.specs.Entries.{pastOf}
+use Rattle.colour.specs.Entries.{firstPast}
 
 -- the place of a point; of one outside the root, which has none, the first
 unfoldable pub placeOrFirst : Root → Point → ℕ
@@ -18,5 +18,5 @@ placeOrFirst root p = cond (holdsPoint (rootCube root) p) (placeOf root p) 0
 -- a point of a root over which no record passes the limit
 pub record Judgeable (rs : List Record) (root : Root) (p : Point) : Type 0 where
   pub within : inLimits root ≡ true
-  pub none : pastOf rs (rootCube root) ≡ []
+  pub none : firstPast rs (rootCube root) ≡ []
   pub inside : holdsPoint (rootCube root) p ≡ true

@@ -17,7 +17,7 @@ use Rattle.cube.specs.Points.{holdsPoint, pointCube, placeOf}
 use Rattle.zonemap.specs.declared.Leaf.{Leaf}
 use Rattle.zonemap.specs.Opening.{rootOf, leafIn, offsetAt, faultOf}
 use Rattle.colour.specs.States.{isIn}
-use Rattle.colour.specs.Entries.{blank, entries, pastOf}
+use Rattle.colour.specs.Entries.{blank, entries, firstPast}
 use Rattle.lookup.specs.declared.Answer.{Answer}
 use Rattle.lookup.specs.declared.Answer.the-variants.{Outside, Inside, Undecided}
 use Rattle.lookup.specs.declared.Reply.{Reply}
@@ -47,7 +47,7 @@ leafHolding map p = leafIn map (offsetAt map (placeOf (rootOf map) p))
 unfoldable pub mapReply : List Record → List ℕ → Point → Reply
 mapReply rs map p =
     onFirst (faultOf (hasFace rs) map) Map
-    (onFirst (pastOf rs (rootCube (rootOf map))) OverRoot
+    (onFirst (firstPast rs (rootCube (rootOf map))) OverRoot
     (cond (not (holdsPoint (rootCube (rootOf map)) p)) NotInRoot
     (Done (answerOf rs (leafHolding map p) p))))
 

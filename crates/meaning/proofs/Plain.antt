@@ -19,7 +19,7 @@ use Rattle.sheet.specs.declared.Record.{Record}
 use Rattle.sheet.specs.declared.Record.the-variants.{Constant, X, Y, Z, Sum, Difference, Product, Square, Face, Both, Either, Complement}
 use Rattle.sheet.proofs.Along.{along-more, length-along}
 use Rattle.meaning.specs.Fractions.{FractionalPoint}
-use Rattle.meaning.specs.Truth.{Value, over, Meant, absent, valueOf, holdsOf, meantOf, meanings, holdsAt, inSolid}
+use Rattle.meaning.specs.Truth.{Value, over, Meaning, absent, valueOf, holdsOf, meaningOf, meanings, holdsAt, inSolid}
 
 -- a value over powers of n is a/m
 abbrev pub Is : ℕ → Value → ℤ → ℕ → Type 0
@@ -35,36 +35,36 @@ brought n m c a i j e =
     ∙ *-assoc a (pos (n ^ i)) (pos (n ^ j))
     ∙ ap (λ (k : ℕ). a *ℤ pos k) (sym (pow-add n i j))
 
-module _ (p : FractionalPoint) (before : List Meant) where
+module _ (p : FractionalPoint) (before : List Meaning) where
   abbrev n : ℕ
   n = p .n
 
   -- what record r is, after the records before it
-  abbrev pub here : Record → Meant
-  here = meantOf p before
+  abbrev pub here : Record → Meaning
+  here = meaningOf p before
 
   -- what record i is
-  abbrev pub earlier : ℕ → Meant
+  abbrev pub earlier : ℕ → Meaning
   earlier i = getD before i absent
 
   -- ---- a constant c is c/1, and x, y and z are x/n, y/n and z/n
   pub constant-is : (c : ℤ) → Is n (here (Constant c) .value) c 1
-  unfolding meantOf valueOf
+  unfolding meaningOf valueOf
   constant-is c = times-one c ∙ sym (times-none c n)
 
   coordinate : (a : ℤ) → Is n (over a 1) a n
   coordinate a = ap (λ (k : ℕ). a *ℤ pos k) (sym (pow-one n))
 
   pub x-is : Is n (here X .value) (p .x) n
-  unfolding meantOf valueOf
+  unfolding meaningOf valueOf
   x-is = coordinate (p .x)
 
   pub y-is : Is n (here Y .value) (p .y) n
-  unfolding meantOf valueOf
+  unfolding meaningOf valueOf
   y-is = coordinate (p .y)
 
   pub z-is : Is n (here Z .value) (p .z) n
-  unfolding meantOf valueOf
+  unfolding meaningOf valueOf
   z-is = coordinate (p .z)
 
   -- ---- record i is a/m
@@ -80,11 +80,11 @@ module _ (p : FractionalPoint) (before : List Meant) where
         ∙ ap (λ (h : ℕ). (a *ℤ b) *ℤ pos h) (sym (pow-add n (v .power) (w .power)))
 
     pub square-is : Is n (here (Square i) .value) (a *ℤ a) (m * m)
-    unfolding meantOf valueOf
+    unfolding meaningOf valueOf
     square-is = times v m a first
 
     pub face-is : 0 < m → (here (Face i) .holds ≡ true) ↔ (a ≤ℤ pos 0)
-    unfolding meantOf holdsOf
+    unfolding meaningOf holdsOf
     face-is positive =
         let e : leZ (v .numerator) (pos 0) ≡ leZ a (pos 0) =
         sym (same-sign (v .numerator) m positive) ∙ ap (λ (z : ℤ). leZ z (pos 0)) first ∙ same-sign a (n ^ v .power) (one-le-pow (v .power) n (p .positive)) in
@@ -93,7 +93,7 @@ module _ (p : FractionalPoint) (before : List Meant) where
     -- and record j is b/k
     module _ (j k : ℕ) (b : ℤ) (second : Is n (earlier j .value) b k) where
       pub product-is : Is n (here (Product i j) .value) (a *ℤ b) (m * k)
-      unfolding meantOf valueOf
+      unfolding meaningOf valueOf
       product-is = times (earlier j .value) k b second
 
     -- or b/m
@@ -117,11 +117,11 @@ module _ (p : FractionalPoint) (before : List Meant) where
       right-is = rw (add-comm (v .power) (w .power)) (brought n m (w .numerator) b (w .power) (v .power) second)
 
       pub sum-is : Is n (here (Sum i j) .value) (a +ℤ b) m
-      unfolding meantOf valueOf
+      unfolding meaningOf valueOf
       sum-is = +-* left right (pos m) ∙ ap₂ _+ℤ_ left-is right-is ∙ sym (+-* a b (pos both))
 
       pub difference-is : Is n (here (Difference i j) .value) (a -ℤ b) m
-      unfolding meantOf valueOf
+      unfolding meaningOf valueOf
       difference-is = minus-* left right (pos m) ∙ ap₂ _-ℤ_ left-is right-is ∙ sym (minus-* a b (pos both))
 
   -- ---- both, either and complement
@@ -129,11 +129,11 @@ module _ (p : FractionalPoint) (before : List Meant) where
   holds i = earlier i .holds ≡ true
 
   pub both-is : (i j : ℕ) → (here (Both i j) .holds ≡ true) ↔ (holds i × holds j)
-  unfolding meantOf holdsOf
+  unfolding meaningOf holdsOf
   both-is i j = and-eq-true-iff (earlier i .holds) (earlier j .holds)
 
   pub either-is : (i j : ℕ) → (here (Either i j) .holds ≡ true) ↔ (holds i ⊎ holds j)
-  unfolding meantOf holdsOf
+  unfolding meaningOf holdsOf
   either-is i j = or (earlier i .holds) (earlier j .holds)
     where
       or : (s t : Bool) → ((s || t) ≡ true) ↔ ((s ≡ true) ⊎ (t ≡ true))
@@ -141,7 +141,7 @@ module _ (p : FractionalPoint) (before : List Meant) where
       or false t = (λ e. inr e, λ o. ⊎-elim (λ (e : false ≡ true). absurd (true≢false (sym e))) (λ (e : t ≡ true). e) o)
 
   pub complement-is : (i : ℕ) → (here (Complement i) .holds ≡ true) ↔ (holds i → ⊥)
-  unfolding meantOf holdsOf
+  unfolding meaningOf holdsOf
   complement-is i = turned (earlier i .holds)
     where
       turned : (s : Bool) → (not s ≡ true) ↔ ((s ≡ true) → ⊥)
@@ -154,5 +154,5 @@ unfolding inSolid holdsAt
 last-is-solid rs r p =
     let e : length (rs ++ r ∷ []) - 1 ≡ length rs = omega (arith, length-append rs (r ∷ [])) in
     ap (λ (i : ℕ). holdsAt (rs ++ r ∷ []) i p) e
-    ∙ ap (λ (ms : List Meant). getD ms (length rs) absent .holds) (along-more (meantOf p) rs r)
-    ∙ ap (λ (m : Meant). m .holds) (getD-at (meanings p rs) (here p (meanings p rs) r) [] absent (length rs) (length-along (meantOf p) rs))
+    ∙ ap (λ (ms : List Meaning). getD ms (length rs) absent .holds) (along-more (meaningOf p) rs r)
+    ∙ ap (λ (m : Meaning). m .holds) (getD-at (meanings p rs) (here p (meanings p rs) r) [] absent (length rs) (length-along (meaningOf p) rs))

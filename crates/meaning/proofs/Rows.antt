@@ -10,7 +10,7 @@ use Rattle.sheet.specs.declared.Record.the-variants.{Constant, X, Y, Z, Sum, Di
 use Rattle.sheet.specs.Along.{along, onward}
 use Rattle.sheet.specs.StepRoom.{stepRecords}
 use Rattle.meaning.specs.Fractions.{FractionalPoint}
-use Rattle.meaning.specs.Truth.{valueOf, holdsOf, meantOf, holdsAt, inSolid}
+use Rattle.meaning.specs.Truth.{valueOf, holdsOf, meaningOf, holdsAt, inSolid}
 
 -- the point x/n, y/n, z/n with n = m + 1
 abbrev point : ℕ → ℕ → ℕ → ℕ → FractionalPoint
@@ -33,7 +33,7 @@ record Rows : Type 0 where
   before : inSolid stepRecords (at 5 5 2) ≡ true
 
 rows : Rows
-unfolding inSolid holdsAt along onward meantOf valueOf holdsOf
+unfolding inSolid holdsAt along onward meaningOf valueOf holdsOf
 rows = record { corner = refl; same = refl; past = refl; other = refl; before = refl }
 
 -- ---- the other kinds, at halves and thirds
@@ -58,7 +58,7 @@ record KindRows : Type 0 where
   complement-on : inSolid (X ∷ Face 0 ∷ Complement 1 ∷ []) (at 0 0 2) ≡ false
 
 kind-rows : KindRows
-unfolding inSolid holdsAt along onward meantOf valueOf holdsOf
+unfolding inSolid holdsAt along onward meaningOf valueOf holdsOf
 kind-rows = record {
   z-past = refl;
   sum-on = refl;

@@ -14,7 +14,7 @@ use Rattle.sheet.specs.declared.Record.{Record}
 use Rattle.sheet.specs.declared.Record.the-variants.{Constant, X, Y, Z, Sum, Difference, Product, Square, Face, Both, Either, Complement}
 use Rattle.sheet.proofs.Along.{Pairs, related}
 use Rattle.meaning.specs.Fractions.{FractionalPoint}
-use Rattle.meaning.specs.Truth.{Value, over, raised, plus, minus, times, atMostZero, Meant, absent, valueOf, holdsOf, meantOf, holdsAt}
+use Rattle.meaning.specs.Truth.{Value, over, raised, plus, minus, times, atMostZero, Meaning, absent, valueOf, holdsOf, meaningOf, holdsAt}
 
 -- ---- numerators and denominator m times as large
 module _ (m : ℕ) (positive : 0 < m) where
@@ -73,18 +73,18 @@ module _ (m : ℕ) (positive : 0 < m) where
     n : q .n ≡ p .n * m
 
   module _ (p q : FractionalPoint) (by-m : Multiplied p q) where
-    record SameMeant (a b : Meant) : Type 0 where
+    record SameMeaning (a b : Meaning) : Type 0 where
       value : Same (a .value) (b .value)
       holds : a .holds ≡ b .holds
 
-    abbrev here : List Meant → Record → Meant
-    here = meantOf p
+    abbrev here : List Meaning → Record → Meaning
+    here = meaningOf p
 
-    abbrev there : List Meant → Record → Meant
-    there = meantOf q
+    abbrev there : List Meaning → Record → Meaning
+    there = meaningOf q
 
-    step-value : (ms ns : List Meant) (r : Record) → Pairs SameMeant absent absent ms ns → Same (here ms r .value) (there ns r .value)
-    unfolding meantOf valueOf
+    step-value : (ms ns : List Meaning) (r : Record) → Pairs SameMeaning absent absent ms ns → Same (here ms r .value) (there ns r .value)
+    unfolding meaningOf valueOf
     step-value ms ns (Constant c) e = alone c
     step-value ms ns X e = rw (by-m .x) (moved (p .x))
     step-value ms ns Y e = rw (by-m .y) (moved (p .y))
@@ -98,8 +98,8 @@ module _ (m : ℕ) (positive : 0 < m) where
     step-value ms ns (Either a b) e = alone (pos 0)
     step-value ms ns (Complement a) e = alone (pos 0)
 
-    step-holds : (ms ns : List Meant) (r : Record) → Pairs SameMeant absent absent ms ns → here ms r .holds ≡ there ns r .holds
-    unfolding meantOf holdsOf
+    step-holds : (ms ns : List Meaning) (r : Record) → Pairs SameMeaning absent absent ms ns → here ms r .holds ≡ there ns r .holds
+    unfolding meaningOf holdsOf
     step-holds ms ns (Constant c) e = refl
     step-holds ms ns X e = refl
     step-holds ms ns Y e = refl
@@ -116,7 +116,7 @@ module _ (m : ℕ) (positive : 0 < m) where
     same-holds : (rs : List Record) (i : ℕ) → holdsAt rs i p ≡ holdsAt rs i q
     unfolding holdsAt
     same-holds rs i =
-        related SameMeant absent absent (record { value = alone (pos 0); holds = refl }) here there
+        related SameMeaning absent absent (record { value = alone (pos 0); holds = refl }) here there
         (λ ms ns r e. record { value = step-value ms ns r e; holds = step-holds ms ns r e }) rs .each i .holds
 
 -- ---- one point, written in two ways

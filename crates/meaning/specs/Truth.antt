@@ -37,7 +37,7 @@ abbrev pub atMostZero : Value → Bool
 atMostZero v = leZ (v .numerator) (pos 0)
 
 -- what a record is at a point
-pub record Meant : Type 0 where
+pub record Meaning : Type 0 where
   pub value : Value
   pub holds : Bool
 
@@ -46,7 +46,7 @@ abbrev pub zero : Value
 zero = over (pos 0) 0
 
 -- what stands for a record that is not there; it holds nowhere
-abbrev pub absent : Meant
+abbrev pub absent : Meaning
 absent = record { value = zero; holds = false }
 
 -- the value of a record at a point, where v and w are those of its operands
@@ -81,8 +81,8 @@ holdsOf v s t (Either a b) = s || t
 holdsOf v s t (Complement a) = not s
 
 -- what a record is, from what the records before it are
-unfoldable pub meantOf : FractionalPoint → List Meant → Record → Meant
-meantOf p before r =
+unfoldable pub meaningOf : FractionalPoint → List Meaning → Record → Meaning
+meaningOf p before r =
     let first = getD before (firstOf r) absent in
     let second = getD before (secondOf r) absent in
     record {
@@ -90,8 +90,8 @@ meantOf p before r =
       holds = holdsOf (first .value) (first .holds) (second .holds) r;
     }
 
-abbrev pub meanings : FractionalPoint → List Record → List Meant
-meanings p = along (meantOf p)
+abbrev pub meanings : FractionalPoint → List Record → List Meaning
+meanings p = along (meaningOf p)
 
 -- whether record i holds at a point
 unfoldable pub holdsAt : List Record → ℕ → FractionalPoint → Bool

@@ -65,9 +65,9 @@ module _ (rs : List Record) (root : Root) (within : inLimits root ≡ true) wher
   abbrev d : ℕ
   d = root .d
 
-  -- good at its place, and the leaf of the cube there
-  abbrev pub True : ℕ → Leaf → Type 0
-  True p l = (leafGood (hasFace rs) d p l ≡ true) × (l ≡ leafOf rs (cubeAt root p (l .level)))
+  -- what building puts at a place: a leaf that is good there, and is the leaf of the cube there
+  abbrev pub BuiltAt : ℕ → Leaf → Type 0
+  BuiltAt p l = (leafGood (hasFace rs) d p l ≡ true) × (l ≡ leafOf rs (cubeAt root p (l .level)))
 
   module _ (n level c : ℕ) (e : level + n ≡ d) (h : c * 8 ^ n + 8 ^ n ≤ 8 ^ d) where
     abbrev here : Cube
@@ -79,7 +79,7 @@ module _ (rs : List Record) (root : Root) (within : inLimits root ≡ true) wher
         let w : d - level ≡ n = omega arith in
         rw (w, eq-eqb (c * 8 ^ n % 8 ^ n) 0 (mul-mod-left c (8 ^ n)), le-leb (c * 8 ^ n + 8 ^ n) (8 ^ d) h)
 
-    single : (not (isGray rs here) || eqb level d) ≡ true → Run True d (c * 8 ^ n) (leafOf rs here ∷ []) (c * 8 ^ n + 8 ^ n)
+    single : (not (isGray rs here) || eqb level d) ≡ true → Run BuiltAt d (c * 8 ^ n) (leafOf rs here ∷ []) (c * 8 ^ n + 8 ^ n)
     unfolding Run leafGood leafOf isGray cubeAt
     single g =
         let w : d - level ≡ n = omega arith in
@@ -90,7 +90,7 @@ module _ (rs : List Record) (root : Root) (within : inLimits root ≡ true) wher
   part : (c n k : ℕ) → (c * 8 + k) * 8 ^ n ≡ c * 8 ^ suc n + k * 8 ^ n
   part c n k = omega (arith, times-eight c n)
 
-  leaves-run : (n level c : ℕ) → level + n ≡ d → c * 8 ^ n + 8 ^ n ≤ 8 ^ d → Run True d (c * 8 ^ n) (leavesBelow rs n (cubeAt root (c * 8 ^ n) level)) (c * 8 ^ n + 8 ^ n)
+  leaves-run : (n level c : ℕ) → level + n ≡ d → c * 8 ^ n + 8 ^ n ≤ 8 ^ d → Run BuiltAt d (c * 8 ^ n) (leavesBelow rs n (cubeAt root (c * 8 ^ n) level)) (c * 8 ^ n + 8 ^ n)
   leaves-run zero level c e h = rw (leaves-end rs 0 _ refl) (single zero level c e h (last-level (isGray rs (cubeAt root (c * 8 ^ 0) level)) level d (omega arith)))
   leaves-run (suc n) level c e h =
       let q : Cube = cubeAt root (c * 8 ^ suc n) level in
@@ -98,7 +98,7 @@ module _ (rs : List Record) (root : Root) (within : inLimits root ≡ true) wher
       (λ t.
       let z : c * 8 ^ suc n + 8 ^ suc n ≡ c * 8 ^ suc n + 8 * 8 ^ n = omega arith in
       rw (leaves-split rs (suc n) q (omega arith) t, z)
-      (run-upto True d (c * 8 ^ suc n) (8 ^ n) 8 (kidLeaves rs (suc n) q)
+      (run-upto BuiltAt d (c * 8 ^ suc n) (8 ^ n) 8 (kidLeaves rs (suc n) q)
       (λ k l.
       let m : suc n - 1 ≡ n = omega arith in
       let kid : kidLeaves rs (suc n) q k ≡ leavesBelow rs n (cubeAt root ((c * 8 + k) * 8 ^ n) (level + 1)) =
@@ -112,7 +112,7 @@ module _ (rs : List Record) (root : Root) (within : inLimits root ≡ true) wher
   abbrev pub all : List Leaf
   all = leavesBelow rs d (rootCube root)
 
-  pub root-run : Run True d 0 all (8 ^ d)
+  pub root-run : Run BuiltAt d 0 all (8 ^ d)
   root-run =
       let r = leaves-run d 0 0 (omega arith) (omega arith) in
       let z : 0 * 8 ^ d ≡ 0 = omega arith in
@@ -125,7 +125,7 @@ module _ (rs : List Record) (root : Root) (within : inLimits root ≡ true) wher
   -- THE ROUND TRIP: a built map opens, and has the root and the leaves that it was built of
   pub built-opens : faultOf (hasFace rs) (builtMap rs root) ≡ []
   unfolding builtMap
-  built-opens = map-opens (hasFace rs) root all within all-few (run-map True d (Fine (hasFace rs) d) (λ p l t. t .0) 0 (8 ^ d) all root-run)
+  built-opens = map-opens (hasFace rs) root all within all-few (run-map BuiltAt d (Fine (hasFace rs) d) (λ p l t. t .0) 0 (8 ^ d) all root-run)
 
   pub built-root : rootOf (builtMap rs root) ≡ root
   unfolding builtMap
@@ -139,4 +139,4 @@ module _ (rs : List Record) (root : Root) (within : inLimits root ≡ true) wher
   pub leaf-is : (i : ℕ) → i < length all → getD all i nowhere ≡ leafOf rs (cubeAt root (placeAt d i all) (getD all i nowhere .level))
   leaf-is i h =
       let z : 0 + placeAt d i all ≡ placeAt d i all = omega arith in
-      rw z at (run-at True d 0 (8 ^ d) i all root-run h .1)
+      rw z at (run-at BuiltAt d 0 (8 ^ d) i all root-run h .1)

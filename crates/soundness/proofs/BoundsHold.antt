@@ -18,7 +18,7 @@ use Rattle.cube.specs.declared.Cube.{Cube}
 use Rattle.colour.specs.Bounds.{across, boundsOf}
 use Rattle.colour.specs.Entries.{Entry, blank, entryOf, entries}
 use Rattle.meaning.specs.Fractions.{FractionalPoint, BetweenPlanes, InClosed}
-use Rattle.meaning.specs.Truth.{Value, over, raised, plus, minus, times, Meant, absent, valueOf, meantOf, meanings}
+use Rattle.meaning.specs.Truth.{Value, over, raised, plus, minus, times, Meaning, absent, valueOf, meaningOf, meanings}
 use Rattle.soundness.specs.Claims.{HoldsValue}
 
 -- ---- each rule, once
@@ -55,11 +55,11 @@ module _ (n : ℕ) where
 
 -- ---- all records
 module _ (q : Cube) (p : FractionalPoint) (h : InClosed q p) where
-  abbrev Held : Entry → Meant → Type 0
+  abbrev Held : Entry → Meaning → Type 0
   Held e m = HoldsValue (p .n) (e .bounds) (m .value)
 
-  step-holds : (es : List Entry) (ms : List Meant) (r : Record) → Pairs Held blank absent es ms → Held (entryOf q es r) (meantOf p ms r)
-  unfolding entryOf boundsOf meantOf valueOf
+  step-holds : (es : List Entry) (ms : List Meaning) (r : Record) → Pairs Held blank absent es ms → Held (entryOf q es r) (meaningOf p ms r)
+  unfolding entryOf boundsOf meaningOf valueOf
   step-holds es ms (Constant c) k = alone (p .n) c
   step-holds es ms X k = between (p .n) _ _ _ (h .x)
   step-holds es ms Y k = between (p .n) _ _ _ (h .y)
@@ -75,4 +75,4 @@ module _ (q : Cube) (p : FractionalPoint) (h : InClosed q p) where
 
   -- the value of each record at the point lies in its bounds over the cube
   pub bounds-hold : (rs : List Record) (i : ℕ) → HoldsValue (p .n) (getD (entries q rs) i blank .bounds) (getD (meanings p rs) i absent .value)
-  bounds-hold rs i = related Held blank absent (alone (p .n) (pos 0)) (entryOf q) (meantOf p) step-holds rs .each i
+  bounds-hold rs i = related Held blank absent (alone (p .n) (pos 0)) (entryOf q) (meaningOf p) step-holds rs .each i

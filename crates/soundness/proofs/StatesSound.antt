@@ -18,7 +18,7 @@ use Rattle.colour.specs.declared.State.the-variants.{Out, In, Single, Comp, Mix
 use Rattle.colour.specs.States.{isIn, isOut, faceState, complementOf, bothOf, eitherOf, stateOf}
 use Rattle.colour.specs.Entries.{Entry, blank, entryOf, entries}
 use Rattle.meaning.specs.Fractions.{FractionalPoint, InClosed}
-use Rattle.meaning.specs.Truth.{Value, atMostZero, Meant, absent, holdsOf, meantOf, meanings, holdsAt}
+use Rattle.meaning.specs.Truth.{Value, atMostZero, Meaning, absent, holdsOf, meaningOf, meanings, holdsAt}
 use Rattle.soundness.specs.Claims.{HoldsValue, Sound}
 use Rattle.soundness.proofs.BoundsHold.{bounds-hold}
 
@@ -95,20 +95,20 @@ module _ (q : Cube) (p : FractionalPoint) (h : InClosed q p) (rs : List Record) 
   abbrev face : ℕ → Bool
   face f = holdsAt rs f p
 
-  abbrev Says : Entry → Meant → Type 0
+  abbrev Says : Entry → Meaning → Type 0
   Says e m = Sound face (e .state) (m .holds)
 
   -- a face's own entry
   own : (before after : List Record) (a : ℕ) → before ++ Face a ∷ after ≡ rs → face (length (entries q before)) ≡ atMostZero (getD (meanings p before) a absent .value)
-  unfolding holdsAt meantOf holdsOf
+  unfolding holdsAt meaningOf holdsOf
   own before after a e =
       ap face (length-along (entryOf q) before)
       ∙ ap (λ (l : List Record). getD (meanings p l) (length before) absent .holds) (sym e)
-      ∙ ap (λ (m : Meant). m .holds) (entry (meantOf p) before (Face a) after absent)
+      ∙ ap (λ (m : Meaning). m .holds) (entry (meaningOf p) before (Face a) after absent)
 
   step-sound : (before : List Record) (r : Record) (after : List Record) → before ++ r ∷ after ≡ rs → Pairs Says blank absent (entries q before) (meanings p before)
-      → Says (entryOf q (entries q before) r) (meantOf p (meanings p before) r)
-  unfolding entryOf stateOf meantOf holdsOf
+      → Says (entryOf q (entries q before) r) (meaningOf p (meanings p before) r)
+  unfolding entryOf stateOf meaningOf holdsOf
   step-sound before (Constant c) after e k = mixed-sound face false
   step-sound before X after e k = mixed-sound face false
   step-sound before Y after e k = mixed-sound face false
@@ -125,4 +125,4 @@ module _ (q : Cube) (p : FractionalPoint) (h : InClosed q p) (rs : List Record) 
   -- what the state of record i over the cube says is so at the point
   pub states-sound : (i : ℕ) → Sound face (getD (entries q rs) i blank .state) (holdsAt rs i p)
   unfolding Sound holdsAt
-  states-sound i = related-in Says blank absent refl (entryOf q) (meantOf p) rs step-sound .each i
+  states-sound i = related-in Says blank absent refl (entryOf q) (meaningOf p) rs step-sound .each i

@@ -22,7 +22,7 @@ use Rattle.colour.specs.Bounds.{across, boundsOf}
 use Rattle.colour.specs.States.{isIn, isOut, faceState, bothOf, stateOf}
 use Rattle.colour.specs.Entries.{blank, entryOf, entries}
 use Rattle.meaning.specs.Fractions.{FractionalPoint, BetweenPlanes, InClosed}
-use Rattle.meaning.specs.Truth.{valueOf, holdsOf, meantOf, holdsAt, inSolid}
+use Rattle.meaning.specs.Truth.{valueOf, holdsOf, meaningOf, holdsAt, inSolid}
 use Rattle.soundness.specs.Claims.{Sound}
 
 -- a state of the solid over a cube that is not sound at a point of the closed cube
@@ -69,7 +69,7 @@ abbrev lies : {plane : ℤ} {side : ℕ} {a : ℤ} {n : ℕ} → T (leZ (plane *
 lies l u = record { low = record { le = l }; high = record { le = u } }
 
 corners-sampled : Unsound strip (cube (pos 0) 4) (sampled strip (cube (pos 0) 4))
-unfolding sampled allOf anyOf Sound inSolid holdsAt along onward meantOf valueOf holdsOf
+unfolding sampled allOf anyOf Sound inSolid holdsAt along onward meaningOf valueOf holdsOf
 corners-sampled = record {
   point = at (pos 3) (pos 0) 1;
   closed = record { x = lies tt tt; y = lies tt tt; z = lies tt tt };
@@ -82,7 +82,7 @@ abbrev wall : List Record
 wall = X ∷ Constant (pos 1) ∷ Difference 0 1 ∷ Face 2 ∷ []
 
 low-corner : Unsound wall (cube (pos 0) 4) (faceState (difference (only (pos 0)) (only (pos 1))) 3)
-unfolding faceState difference Sound inSolid holdsAt along onward meantOf valueOf holdsOf
+unfolding faceState difference Sound inSolid holdsAt along onward meaningOf valueOf holdsOf
 low-corner = record {
   point = at (pos 4) (pos 0) 0;
   closed = record { x = lies tt tt; y = lies tt tt; z = lies tt tt };
@@ -94,7 +94,7 @@ outAtZero : Interval → ℕ → State
 outAtZero i f = cond (leZ (i .high) (pos 0)) In (cond (leZ (pos 0) (i .low)) Out (Single f))
 
 called-out : Unsound wall (cube (pos 1) 2) (outAtZero (getD (entries (cube (pos 1) 2) wall) 2 blank .bounds) 3)
-unfolding outAtZero entryOf boundsOf stateOf across difference Sound inSolid holdsAt along onward meantOf valueOf holdsOf
+unfolding outAtZero entryOf boundsOf stateOf across difference Sound inSolid holdsAt along onward meaningOf valueOf holdsOf
 called-out = record {
   point = at (pos 1) (pos 1) 0;
   closed = record { x = lies tt tt; y = lies tt tt; z = lies tt tt };
@@ -113,7 +113,7 @@ abbrev edgeState : ℕ → State
 edgeState n = getD (entries (cube (negsuc 0) 2) edge) n blank .state
 
 single-kept : Unsound edge (cube (negsuc 0) 2) (keptOf (edgeState 2) (edgeState 3))
-unfolding keptOf entryOf boundsOf stateOf across faceState bothOf Sound inSolid holdsAt along onward meantOf valueOf holdsOf
+unfolding keptOf entryOf boundsOf stateOf across faceState bothOf Sound inSolid holdsAt along onward meaningOf valueOf holdsOf
 single-kept = record {
   point = at (pos 0) (pos 1) 0;
   closed = record { x = lies tt tt; y = lies tt tt; z = lies tt tt };

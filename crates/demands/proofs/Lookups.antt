@@ -26,6 +26,7 @@ use Rattle.colour.specs.Entries.{firstPast}
 use Rattle.colour.proofs.Smaller.{none-keep, keep-none}
 use Rattle.zonemap.specs.declared.Leaf.{Leaf}
 use Rattle.zonemap.specs.Opening.{rootOf, faultOf}
+use Rattle.zonemap.specs.Leaves.{nthLeaf, nthCube}
 use Rattle.zonemap.proofs.Found.{leaf-bytes}
 use Rattle.zonemap.proofs.Tiling.{one}
 use Rattle.lookup.specs.declared.Reply.{Reply}
@@ -33,7 +34,7 @@ use Rattle.lookup.specs.declared.Reply.the-variants.{Map, OverRoot}
 use Rattle.lookup.specs.Lookup.{answerNumber, answerOf, sideOf, leafHolding, mapReply, onSheet, lookupOf, codeOf}
 use Rattle.zone.specs.declared.ZoneReply.{ZoneReply}
 use Rattle.zone.specs.Replies.{reply, checkedByNumber, zoneCheckOf, lookupByNumber, zoneLookupOf}
-use Rattle.demands.specs.Terms.{DoneWhere, Built, nthLeaf, nthCube, Touches, GoodSheet, GoodLeaf, CanLookUp}
+use Rattle.demands.specs.Terms.{DoneWhere, Built, Touches, GoodSheet, GoodLeaf, CanLookUp}
 use Rattle.demands.specs.Table.{LookupRows}
 use Rattle.demands.specs.Demands.{ByTheLeaf, Agrees}
 use Rattle.demands.proofs.Sheets.{sheet-code, check-good, good-check}

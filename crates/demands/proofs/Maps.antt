@@ -17,13 +17,14 @@ use Rattle.cube.specs.Cubes.{rootCube}
 use Rattle.cube.specs.Points.{InRoot}
 use Rattle.colour.proofs.Smaller.{none-keep}
 use Rattle.zonemap.specs.Opening.{rootOf, leavesOf, faultOf}
+use Rattle.zonemap.specs.Leaves.{nthLeaf, nthCube}
 use Rattle.zonemap.proofs.Bytes.{map-length}
 use Rattle.building.specs.Solid.{leafOf}
 use Rattle.building.specs.Build.{builtMap}
 use Rattle.building.proofs.Answers.{Made}
 use Rattle.roundtrip.proofs.Built.{all, built-opens, built-root, built-leaves, leaf-is}
 use Rattle.zone.specs.Replies.{ZoneOutcome}
-use Rattle.demands.specs.Terms.{Built, nthLeaf, nthCube, Opens, CanLookUp}
+use Rattle.demands.specs.Terms.{Built, Opens, CanLookUp}
 use Rattle.demands.specs.Demands.{TheMap}
 use Rattle.demands.proofs.Sheets.{check-good}
 use Rattle.demands.proofs.Opening.{opens-told, any-opens, opens as zone-opens}

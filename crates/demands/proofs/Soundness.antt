@@ -12,6 +12,7 @@ use Rattle.cube.specs.declared.Cube.{Cube}
 use Rattle.meaning.specs.Fractions.{FractionalPoint, InClosed}
 use Rattle.meaning.specs.Truth.{holdsAt, inSolid}
 use Rattle.zonemap.specs.Opening.{faceGood}
+use Rattle.zonemap.specs.Leaves.{nthLeaf, nthCube}
 use Rattle.colour.specs.declared.State.{State}
 use Rattle.colour.specs.States.{classOf, faceOf}
 use Rattle.colour.specs.Held.{stateBy}
@@ -20,7 +21,7 @@ use Rattle.soundness.specs.Claims.{Sound}
 use Rattle.soundness.proofs.StatesSound.{states-sound}
 use Rattle.building.specs.Solid.{solidState, leafBy, leafOf}
 use Rattle.roundtrip.proofs.Named.{solid-good}
-use Rattle.demands.specs.Terms.{Built, nthLeaf, nthCube, Touches}
+use Rattle.demands.specs.Terms.{Built, Touches}
 use Rattle.demands.specs.Demands.{Agrees}
 use Rattle.demands.proofs.Maps.{leaf-there}
 

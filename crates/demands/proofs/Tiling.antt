@@ -13,9 +13,10 @@ use Rattle.meaning.specs.Fractions.{FractionalPoint, InClosedRoot}
 use Rattle.meaning.proofs.Closed.{closed-root-holds}
 use Rattle.meaning.proofs.Cover.{beside-point, beside-held, beside-closed}
 use Rattle.zonemap.specs.Opening.{rootOf, faultOf, anyFace}
+use Rattle.zonemap.specs.Leaves.{nthCube}
 use Rattle.zonemap.proofs.Tiling.{one, in-one, only-one}
 use Rattle.zone.specs.Replies.{zoneOpenOf}
-use Rattle.demands.specs.Terms.{ExactlyOne, nthCube, Holds, Touches}
+use Rattle.demands.specs.Terms.{ExactlyOne, Holds, Touches}
 use Rattle.demands.proofs.Opening.{opened-fault}
 
 root-side : (r : Root) → 0 < rootCube r .side

@@ -15,11 +15,12 @@ use Rattle.meaning.specs.Fractions.{FractionalPoint, whole, InClosedRoot}
 use Rattle.meaning.specs.Truth.{holdsAt, inSolid}
 use Rattle.zonemap.specs.declared.Leaf.{Leaf}
 use Rattle.zonemap.specs.Opening.{rootOf, leavesOf, anyFace}
+use Rattle.zonemap.specs.Leaves.{nthLeaf, nthCube}
 use Rattle.building.specs.Solid.{leafOf}
 use Rattle.building.specs.Build.{builtMap}
 use Rattle.zone.specs.declared.ZoneReply.{ZoneReply}
 use Rattle.zone.specs.Replies.{reply, zoneCheckOf, ZoneOutcome, zoneOutcome, zoneBuildOf, zoneOpenOf, zoneLookupOf}
-use Rattle.demands.specs.Terms.{ExactlyOne, DoneWhere, Built, nthLeaf, nthCube, Holds, Touches, GoodSheet, Opens, CanBuild, CanLookUp}
+use Rattle.demands.specs.Terms.{ExactlyOne, DoneWhere, Built, Holds, Touches, GoodSheet, Opens, CanBuild, CanLookUp}
 use Rattle.demands.specs.Table.{Table}
 use Rattle.demands.specs.Rows.{AllHold, elevenRows}
 

@@ -17,10 +17,11 @@ use Rattle.cube.specs.Cubes.{rootCube}
 use Rattle.cube.specs.Points.{InRoot}
 use Rattle.colour.specs.Entries.{firstPast}
 use Rattle.zonemap.specs.Opening.{lengthGood, rootOf, leavesOf, faultOf, anyFace}
+use Rattle.zonemap.specs.Leaves.{nthPlace}
 use Rattle.building.specs.Solid.{pastInTree}
 use Rattle.building.specs.Build.{builtMap}
 use Rattle.zone.specs.Replies.{reply, zoneCheckOf, zoneBuildOf, zoneOpenOf, zoneLookupOf}
-use Rattle.demands.specs.Terms.{nthPlace, GoodSheet, GoodLeaf, Opens, KeepsLimit}
+use Rattle.demands.specs.Terms.{GoodSheet, GoodLeaf, Opens, KeepsLimit}
 
 -- of any sheet
 pub record SheetRows (sheet : List ℕ) : Type 0 where

@@ -17,13 +17,12 @@ use Rattle.cube.specs.declared.Root.{Root}
 use Rattle.cube.specs.declared.Cube.{Cube}
 use Rattle.cube.specs.declared.Point.{Point}
 use Rattle.cube.specs.Limits.{WithinLimits}
-use Rattle.cube.specs.Cubes.{rootCube, cubeAt}
+use Rattle.cube.specs.Cubes.{rootCube}
 use Rattle.cube.specs.Points.{holdsPoint, InRoot}
 use Rattle.meaning.specs.Fractions.{FractionalPoint, InClosed}
 use Rattle.colour.specs.Entries.{blank, entries}
-use Rattle.zonemap.specs.declared.Leaf.{Leaf}
 use Rattle.zonemap.specs.Opening.{rootOf, leavesOf}
-use Rattle.zonemap.specs.Leaves.{placeAt, nowhere}
+use Rattle.zonemap.specs.Leaves.{nthLeaf, nthPlace, nthCube}
 use Rattle.building.specs.Solid.{pastInTree}
 use Rattle.building.specs.Build.{builtMap}
 use Rattle.zone.specs.declared.ZoneReply.{ZoneReply}
@@ -49,16 +48,7 @@ pub record Built (sheet map : List ℕ) : Type 0 where
   pub answered : zoneOutcome (reply 0 size) after ≡ zoneBuildOf sheet root before
   pub bytes : map ≡ take size after
 
--- ---- leaf i of a map, its place and its cube, as the map's own bytes give them
-abbrev pub nthLeaf : List ℕ → ℕ → Leaf
-nthLeaf map i = getD (leavesOf map) i nowhere
-
-abbrev pub nthPlace : List ℕ → ℕ → ℕ
-nthPlace map i = placeAt (rootOf map .d) i (leavesOf map)
-
-abbrev pub nthCube : List ℕ → ℕ → Cube
-nthCube map i = cubeAt (rootOf map) (nthPlace map i) (nthLeaf map i .level)
-
+-- ---- leaf i of a map
 -- a whole point is in leaf i, high planes left out
 pub record Holds (map : List ℕ) (p : Point) (i : ℕ) : Type 0 where
   pub among : i < length (leavesOf map)

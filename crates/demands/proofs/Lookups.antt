@@ -27,7 +27,7 @@ use Rattle.colour.proofs.Smaller.{none-keep, keep-none}
 use Rattle.zonemap.specs.declared.Leaf.{Leaf}
 use Rattle.zonemap.specs.Opening.{rootOf, faultOf}
 use Rattle.zonemap.specs.Leaves.{nthLeaf, nthCube}
-use Rattle.zonemap.proofs.Found.{leaf-bytes}
+use Rattle.zonemap.proofs.Finding.{leaf-bytes}
 use Rattle.zonemap.proofs.Tiling.{one}
 use Rattle.lookup.specs.declared.Reply.{Reply}
 use Rattle.lookup.specs.declared.Reply.the-variants.{Map, OverRoot}

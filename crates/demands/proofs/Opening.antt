@@ -19,7 +19,7 @@ use Rattle.zonemap.specs.Map.{mapVersion}
 use Rattle.zonemap.specs.Opening.{lengthGood, rootOf, leavesOf, sizeOf, levelGood, faceGood, placeGood, leafGood, leavesFault, headerFault, faultOf, anyFace, openOf}
 use Rattle.zonemap.specs.Leaves.{nthLeaf, nthPlace}
 use Rattle.zonemap.proofs.Runs.{level-told, place-told, leaf-parts, Fine, run-at, run-end, at-run, opens-run, leaf-fault, end-fault, run-opens}
-use Rattle.zonemap.proofs.Found.{leaves-count, header-told, opens-parts}
+use Rattle.zonemap.proofs.Finding.{leaves-count, header-told, opens-parts}
 use Rattle.zone.specs.Replies.{reply, openedByNumber, zoneOpenOf}
 use Rattle.demands.specs.Terms.{DoneWhere, GoodLeaf, Opens}
 use Rattle.demands.specs.Table.{Faults}

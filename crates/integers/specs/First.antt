@@ -1,8 +1,7 @@
 -- Replies in order of test: the first of a list decides.
 use mathlib.Core.List.{List, [], _∷_}
-use Prim.Native.Nat.{ℕ}
 
 -- the first of a list decides, where there is one
-abbrev pub onFirst : {A : Type 0} → List ℕ → (ℕ → A) → A → A
+abbrev pub onFirst : {A B : Type 0} → List A → (A → B) → B → B
 onFirst [] f rest = rest
-onFirst (n ∷ ns) f rest = f n
+onFirst (a ∷ later) f rest = f a

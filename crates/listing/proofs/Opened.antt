@@ -13,7 +13,7 @@ use Rattle.zonemap.specs.Opening.{rootOf, leafIn, leavesFrom, leavesOf, sizeOf,
 use Rattle.zonemap.proofs.Powers.{power-below}
 use Rattle.zonemap.proofs.Runs.{Run, Fine, opens-run, good-level, good-place}
 use Rattle.zonemap.proofs.Scan.{more}
-use Rattle.zonemap.proofs.Found.{opens-parts, opens-sizes}
+use Rattle.zonemap.proofs.Finding.{opens-parts, opens-sizes}
 
 -- ---- one leaf
 module _ (r : Root) (e : inLimits r ≡ true) (l : Leaf) where

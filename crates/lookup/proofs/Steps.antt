@@ -32,7 +32,7 @@ use Rattle.zonemap.specs.declared.Scanned.{Scanned}
 use Rattle.zonemap.specs.declared.Scanned.the-variants.{At, Bad as BadLeaves}
 use Rattle.zonemap.specs.Opening.{rootOf, leafIn, leavesOf, leafAt, offsetAt, leavesFault, headerFault, faultOf}
 use Rattle.zonemap.specs.Inner.{marked}
-use Rattle.zonemap.proofs.Found.{header-sizes, found-inside, opens-parts, opens-sizes}
+use Rattle.zonemap.proofs.Finding.{header-sizes, found-inside, opens-parts, opens-sizes}
 use Rattle.zonemap.proofs.Opens.{header-bad, leaves-good, leaves-bad}
 use Rattle.colour.specs.declared.State.{State}
 use Rattle.colour.specs.declared.Judged.{Judged}

@@ -13,27 +13,27 @@ use Rattle.sheet.specs.declared.Sort.{Sort}
 use Rattle.sheet.specs.declared.Sort.the-variants.{Neither, Arithmetic, Logical}
 use Rattle.sheet.specs.declared.Read.{Read}
 use Rattle.sheet.specs.declared.Read.the-variants.{Found, Refused}
-use Rattle.sheet.specs.declared.Refusal.{Refusal}
-use Rattle.sheet.specs.declared.Refusal.the-variants.{Length, Version, Operand, Solid, Record as BadRecord}
-use Rattle.sheet.specs.declared.Checked.the-variants.{Good, Refused as Bad}
+use Rattle.replies.specs.declared.Refusal.{Refusal}
+use Rattle.replies.specs.declared.Refusal.the-variants.{Length, Version, Operand, Solid, Record as BadRecord}
+use Rattle.replies.specs.declared.Reply.the-variants.{Done, Refused as Bad}
 use Rattle.sheet.specs.Table.{readAt}
 use Rattle.sheet.specs.Records.{onRead, readFrom, reading, recordsOf, stopOf}
 use Rattle.sheet.specs.Operands.{firstUnmet, lastSort}
-use Rattle.sheet.specs.Check.{lengthFails, solidOf, sortedOf, checkOf}
+use Rattle.sheet.specs.Check.{lengthFails, solidOf, checkRecords, checkOf}
 use Rattle.sheet.proofs.Unmet.{unmet-most}
 
 -- a refusal is not good
-pub not-good : {A : Type 0} (why : Refusal) (n : ℕ) → Bad why ≡ Good n → A
+pub not-good : {A : Type 0} (why : Refusal) (n : ℕ) → Bad why ≡ Done n → A
 not-good why n e = let z : _≡_ {A = ℕ} 0 1 = cc in absurd (omega arith)
 
 -- ---- what is so where no row refuses
-solid-good : (sort : Sort) (m n : ℕ) → solidOf sort m ≡ Good n → (n ≡ m) × (sort ≡ Logical)
+solid-good : (sort : Sort) (m n : ℕ) → solidOf sort m ≡ Done n → (n ≡ m) × (sort ≡ Logical)
 solid-good Neither m n e = not-good (Solid m) n e
 solid-good Arithmetic m n e = not-good (Solid m) n e
 solid-good Logical m n e = (cc, refl)
 
-pub sorted-good : (rs : List Record) (n : ℕ) → sortedOf rs ≡ Good n → (n ≡ length rs) × (firstUnmet [] rs ≡ length rs) × (lastSort rs ≡ Logical)
-unfolding sortedOf
+pub sorted-good : (rs : List Record) (n : ℕ) → checkRecords rs ≡ Done n → (n ≡ length rs) × (firstUnmet [] rs ≡ length rs) × (lastSort rs ≡ Logical)
+unfolding checkRecords
 sorted-good rs n e =
     by-test (ltb (firstUnmet [] rs) (length rs))
     (λ t. not-good (Operand (firstUnmet [] rs)) n (rw t at e))
@@ -41,7 +41,7 @@ sorted-good rs n e =
     let last = solid-good (lastSort rs) (length rs) n (rw t at e) in
     (last .0, omega (arith, ltb-false (firstUnmet [] rs) (length rs) t, unmet-most [] rs), last .1))
 
-pub check-parts : (s : List ℕ) (n : ℕ) → checkOf s ≡ Good n → (lengthFails s ≡ false) × (getD s 2 0 ≡ 1) × (length s ≤ stopOf s) × (sortedOf (recordsOf s) ≡ Good n)
+pub check-parts : (s : List ℕ) (n : ℕ) → checkOf s ≡ Done n → (lengthFails s ≡ false) × (getD s 2 0 ≡ 1) × (length s ≤ stopOf s) × (checkRecords (recordsOf s) ≡ Done n)
 unfolding checkOf
 check-parts s n e =
     by-test (lengthFails s)
@@ -75,7 +75,7 @@ records-few s = few-from 256 s 3
 pub number-few : (s : List ℕ) (count n : ℕ) → count ≡ length (recordsOf s) → n < count → n < 256
 number-few s count n e h = omega (arith, records-few s)
 
-module _ (s : List ℕ) (n : ℕ) (e : checkOf s ≡ Good n) where
+module _ (s : List ℕ) (n : ℕ) (e : checkOf s ≡ Done n) where
   sorted : (n ≡ length (recordsOf s)) × (firstUnmet [] (recordsOf s) ≡ length (recordsOf s)) × (lastSort (recordsOf s) ≡ Logical)
   sorted = sorted-good (recordsOf s) n (check-parts s n e .3)
 

@@ -5,11 +5,11 @@ use Prim.Native.Nat.{ℕ, _+_, _<_, _≤_}
 use borrow.Author.Tests.{lt-ltb, le-ltb, eq-eqb, ne-eqb}
 use lib.ListN.{length, getD}
 use Rattle.bigendian.specs.Numbers.{unsignedAt}
-use Rattle.sheet.specs.declared.Refusal.the-variants.{Length, Version, Record}
-use Rattle.sheet.specs.declared.Checked.{Checked}
-use Rattle.sheet.specs.declared.Checked.the-variants.{Refused}
+use Rattle.replies.specs.declared.Refusal.the-variants.{Length, Version, Record}
+use Rattle.replies.specs.declared.Reply.{Reply}
+use Rattle.replies.specs.declared.Reply.the-variants.{Refused}
 use Rattle.sheet.specs.Records.{recordsOf, stopOf}
-use Rattle.sheet.specs.Check.{sortedOf, checkOf}
+use Rattle.sheet.specs.Check.{checkRecords, checkOf}
 
 module _ (s : List ℕ) where
   pub too-short : length s < 3 → Refused Length ≡ checkOf s
@@ -31,6 +31,6 @@ module _ (s : List ℕ) where
         unfolding checkOf
         bad-record h = rw (le-ltb (length s) 3 long, ← is, eq-eqb _ _ agrees, version, ← at, lt-ltb _ _ h)
 
-        pub all-framed : (r : Checked) → length s ≤ stop → r ≡ sortedOf (recordsOf s) → r ≡ checkOf s
+        pub all-framed : (r : Reply) → length s ≤ stop → r ≡ checkRecords (recordsOf s) → r ≡ checkOf s
         unfolding checkOf
         all-framed r h e = rw (le-ltb (length s) 3 long, ← is, eq-eqb _ _ agrees, version, ← at, le-ltb _ _ h) e

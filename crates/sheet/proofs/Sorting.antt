@@ -14,12 +14,12 @@ use Rattle.sheet.specs.declared.Sort.{Sort}
 use Rattle.sheet.specs.declared.Sort.the-variants.{Neither}
 use Rattle.sheet.specs.declared.Cursor.{Cursor}
 use Rattle.sheet.specs.declared.Read.the-variants.{Found, Refused}
-use Rattle.sheet.specs.declared.Refusal.the-variants.{Operand}
-use Rattle.sheet.specs.declared.Checked.the-variants.{Refused as Bad}
+use Rattle.replies.specs.declared.Refusal.the-variants.{Operand}
+use Rattle.replies.specs.declared.Reply.the-variants.{Refused as Bad}
 use Rattle.sheet.specs.Table.{readAt}
 use Rattle.sheet.specs.Records.{start, recordsOf}
 use Rattle.sheet.specs.Operands.{sortOf, askedOf, firstOf, secondOf, areMet, isMet, firstUnmet, lastSort}
-use Rattle.sheet.specs.Check.{solidOf, sortedOf}
+use Rattle.sheet.specs.Check.{solidOf, checkRecords}
 use Rattle.sheet.proofs.Walk.{At, at-start, here, found-number, found-record, rest-is, at-next, all-read}
 use Rattle.sheet.proofs.Arrays.{Reads, reads-more}
 
@@ -80,8 +80,8 @@ module _ (s : List ℕ) (sorts : List Sort) (last : Sort) (n : ℕ) (c : Cursor)
     unfolding firstUnmet
     step = rw (here s c n (w .walk) r next e, ← rest-is s c n (w .walk) r next e, ← tested, len)
 
-    pub unmet : met ≡ false → Bad (Operand n) ≡ sortedOf rs
-    unfolding sortedOf
+    pub unmet : met ≡ false → Bad (Operand n) ≡ checkRecords rs
+    unfolding checkRecords
     unmet h =
         let f : firstUnmet [] rs ≡ n = sym (w .same) ∙ step ∙ rw h in
         rw (f, lt-ltb n (length rs) number)
@@ -104,8 +104,8 @@ module _ (s : List ℕ) (sorts : List Sort) (last : Sort) (n : ℕ) (c : Cursor)
 
   -- at the end
   module _ (x : ℕ) (e : readAt s c ≡ Refused x) where
-    pub sorted-end : solidOf last n ≡ sortedOf rs
-    unfolding sortedOf firstUnmet
+    pub sorted-end : solidOf last n ≡ checkRecords rs
+    unfolding checkRecords firstUnmet
     sorted-end =
         let m = all-read s c n (w .walk) x e in
         let t : take n rs ≡ rs = take-all n rs (omega (arith, m)) in

@@ -8,10 +8,9 @@ use Rattle.bigendian.specs.Numbers.{unsignedAt}
 use Rattle.sheet.specs.declared.Record.{Record}
 use Rattle.sheet.specs.declared.Sort.{Sort}
 use Rattle.sheet.specs.declared.Sort.the-variants.{Neither, Arithmetic, Logical}
-use Rattle.sheet.specs.declared.Refusal.{Refusal}
-use Rattle.sheet.specs.declared.Refusal.the-variants.{Length, Version, Operand, Solid, Record as BadRecord}
-use Rattle.sheet.specs.declared.Checked.{Checked}
-use Rattle.sheet.specs.declared.Checked.the-variants.{Good, Refused}
+use Rattle.replies.specs.declared.Refusal.the-variants.{Length, Version, Operand, Solid, Record as BadRecord}
+use Rattle.replies.specs.declared.Reply.{Reply}
+use Rattle.replies.specs.declared.Reply.the-variants.{Done, Refused}
 use Rattle.sheet.specs.Records.{recordsOf, stopOf}
 use Rattle.sheet.specs.Operands.{firstUnmet, lastSort}
 
@@ -20,34 +19,19 @@ abbrev pub lengthFails : List ℕ → Bool
 lengthFails s = ltb (length s) 3 || not (eqb (unsignedAt 2 s 0 + 2) (length s))
 
 -- The last record must be logical and is the solid. (n is how many records there are.)
-abbrev pub solidOf : Sort → ℕ → Checked
+abbrev pub solidOf : Sort → ℕ → Reply
 solidOf Neither n = Refused (Solid n)
 solidOf Arithmetic n = Refused (Solid n)
-solidOf Logical n = Good n
+solidOf Logical n = Done n
 
 -- replies 4 and 5, of the records alone
-unfoldable pub sortedOf : List Record → Checked
-sortedOf rs = cond (ltb (firstUnmet [] rs) (length rs)) (Refused (Operand (firstUnmet [] rs))) (solidOf (lastSort rs) (length rs))
+unfoldable pub checkRecords : List Record → Reply
+checkRecords rs = cond (ltb (firstUnmet [] rs) (length rs)) (Refused (Operand (firstUnmet [] rs))) (solidOf (lastSort rs) (length rs))
 
 -- the table of replies from 1 to 5, row by row
-unfoldable pub checkOf : List ℕ → Checked
+unfoldable pub checkOf : List ℕ → Reply
 checkOf s =
     cond (lengthFails s) (Refused Length)
     (cond (not (eqb (getD s 2 0) 1)) (Refused Version)
     (cond (ltb (stopOf s) (length s)) (Refused (BadRecord (stopOf s)))
-    (sortedOf (recordsOf s))))
-
--- the code and the number of each refusal
-abbrev pub codeOf : Refusal → ℕ
-codeOf Length = 1
-codeOf Version = 2
-codeOf (BadRecord at) = 3
-codeOf (Operand n) = 4
-codeOf (Solid n) = 5
-
-abbrev pub numberOf : Refusal → ℕ
-numberOf Length = 0
-numberOf Version = 0
-numberOf (BadRecord at) = at
-numberOf (Operand n) = n
-numberOf (Solid n) = n
+    (checkRecords (recordsOf s))))

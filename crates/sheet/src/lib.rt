@@ -47,18 +47,3 @@ pub enum Sort {
     Arithmetic,
     Logical,
 }
-
-// Why a sheet is refused: replies 1 to 5.
-pub enum Refusal {
-    Length,
-    Version,
-    Record(usize),
-    Operand(usize),
-    Solid(usize),
-}
-
-// A sheet is good and has so many records, or is refused.
-pub enum Checked {
-    Good(usize),
-    Refused(Refusal),
-}

@@ -3,13 +3,13 @@
 ghost use mathlib.Core.Path.{_≡_};
 ghost use Rattle.sheet.specs.Records.{recordsOf};
 ghost use Rattle.sheet.specs.Operands.{sortOf, askedOf, firstOf, secondOf, suits, areMet};
-ghost use Rattle.sheet.specs.Check.{solidOf, sortedOf};
-use crate::Checked;
+ghost use Rattle.sheet.specs.Check.{solidOf, checkRecords};
 use crate::Cursor;
 use crate::Read;
 use crate::Record;
-use crate::Refusal;
 use crate::Sort;
+use replies::Refusal;
+use replies::Reply;
 
 impl Record {
     pub fn sort(self) -> Sort
@@ -124,19 +124,19 @@ fn met(asked: Sort, first: Sort, second: Sort) -> bool
 }
 
 // The last record must be logical and is the solid; n is how many records there are.
-fn solid(last: Sort, n: usize) -> Checked
+fn solid(last: Sort, n: usize) -> Reply
     ensures { λ r. ⌜ r ≡ solidOf last n ⌝ }
 {
     match last {
-        Sort::Neither => Checked::Refused(Refusal::Solid(n)),
-        Sort::Arithmetic => Checked::Refused(Refusal::Solid(n)),
-        Sort::Logical => Checked::Good(n),
+        Sort::Neither => Reply::Refused(Refusal::Solid(n)),
+        Sort::Arithmetic => Reply::Refused(Refusal::Solid(n)),
+        Sort::Logical => Reply::Done(n),
     }
 }
 
 // Replies 4 and 5: each record's operands are earlier records of the right sort, and the last record is logical.
-pub fn sorted(s: &[u8]) -> Checked
-    ensures { λ r. ⌜ r ≡ sortedOf (recordsOf (now (s .entry))) ⌝ }
+pub fn check_records(s: &[u8]) -> Reply
+    ensures { λ r. ⌜ r ≡ checkRecords (recordsOf (now (s .entry))) ⌝ }
 {
     let mut sorts = [Sort::Neither; 256];
     let mut last = Sort::Neither;
@@ -149,7 +149,7 @@ pub fn sorted(s: &[u8]) -> Checked
         let first = sorts[r.first() as usize];
         let second = sorts[r.second() as usize];
         if !met(r.asked(), first, second) {
-            return Checked::Refused(Refusal::Operand(n));
+            return Reply::Refused(Refusal::Operand(n));
         }
         last = r.sort();
         sorts[n] = last;

@@ -3,8 +3,9 @@ pub mod Powers
 pub mod Runs
 pub mod Tests
 pub mod Scan
-pub mod Found
+pub mod Finding
 pub mod Opens
+pub mod Meeting
 pub mod Trip
 pub mod ByteNumbers
 pub mod Rows

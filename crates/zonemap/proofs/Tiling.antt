@@ -17,7 +17,7 @@ use Rattle.zonemap.specs.declared.Leaf.{Leaf}
 use Rattle.zonemap.specs.Opening.{rootOf, leavesOf, sizeOf, faultOf, leafAt}
 use Rattle.zonemap.specs.Leaves.{placeAt, nowhere, Holds}
 use Rattle.zonemap.proofs.Runs.{Run, Fine, run-at, opens-run, good-level, good-place}
-use Rattle.zonemap.proofs.Found.{leaf-holds, holds-one, opens-parts, opens-sizes}
+use Rattle.zonemap.proofs.Finding.{leaf-holds, holds-one, opens-parts, opens-sizes}
 
 module _ (named : ℕ → Bool) (s : List ℕ) (opens : faultOf named s ≡ []) where
   abbrev r : Root

@@ -18,6 +18,10 @@ leavesBytes (l ∷ ls) = leafBytes l ++ leavesBytes ls
 abbrev pub mapVersion : ℕ
 mapVersion = 1
 
+-- With n leaves the map has 19 + 3n bytes: so many come before the leaves.
+abbrev pub headerSize : ℕ
+headerSize = 19
+
 -- a 32-bit signed number
 abbrev pub signedBytes : ℤ → List ℕ
 signedBytes z = bytesOf 4 (unsigned32 z)

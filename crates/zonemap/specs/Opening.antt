@@ -6,12 +6,18 @@ use lib.Dec.{eqb, leb, ltb}
 use lib.ListN.{length, getD}
 use Rattle.integers.specs.First.{onFirst}
 use Rattle.bigendian.specs.Numbers.{unsignedAt, signedAt}
+use Rattle.replies.specs.declared.Refusal.the-variants.{Map}
+use Rattle.replies.specs.declared.Reply.{Reply}
+use Rattle.replies.specs.declared.Reply.the-variants.{Done, Refused}
 use Rattle.cube.specs.declared.Root.{Root}
+use Rattle.cube.specs.declared.Point.{Point}
 use Rattle.cube.specs.Limits.{inLimits}
+use Rattle.cube.specs.Cubes.{rootCube}
+use Rattle.cube.specs.Points.{holdsPoint, placeOf}
 use Rattle.zonemap.specs.declared.Leaf.{Leaf}
-use Rattle.zonemap.specs.declared.Opened.{Opened}
-use Rattle.zonemap.specs.declared.Opened.the-variants.{Good, Bad}
-use Rattle.zonemap.specs.Map.{mapVersion}
+use Rattle.zonemap.specs.declared.Found.{Found}
+use Rattle.zonemap.specs.declared.Found.the-variants.{At, Bad}
+use Rattle.zonemap.specs.Map.{mapVersion, headerSize}
 
 -- ---- the bytes
 -- the length agrees and is 15 + 3n (15 is a multiple of 3)
@@ -37,7 +43,7 @@ leavesFrom s at = leavesIn s ((length s - at) / 3) at
 
 -- the leaves of a map
 abbrev pub leavesOf : List ℕ → List Leaf
-leavesOf s = leavesFrom s 19
+leavesOf s = leavesFrom s headerSize
 
 -- ---- one leaf
 -- how many smallest cubes a leaf has: 8^(d-level)
@@ -76,15 +82,15 @@ headerFault s =
 
 -- of a whole map, where `named` says which face numbers a terminal leaf may have
 unfoldable pub faultOf : (ℕ → Bool) → List ℕ → List ℕ
-faultOf named s = onFirst (headerFault s) (λ at. at ∷ []) (leavesFault named (rootOf s .d) 0 19 (leavesOf s))
+faultOf named s = onFirst (headerFault s) (λ at. at ∷ []) (leavesFault named (rootOf s .d) 0 headerSize (leavesOf s))
 
 -- opening without a sheet, so that a terminal leaf may name any face
 abbrev pub anyFace : ℕ → Bool
 anyFace f = true
 
--- how many leaves a map has, or its first fault
-unfoldable pub openOf : List ℕ → Opened
-openOf s = onFirst (faultOf anyFace s) Bad (Good (length (leavesOf s)))
+-- the number of leaves, or reply 9 without its sheet clause
+unfoldable pub openOf : List ℕ → Reply
+openOf s = onFirst (faultOf anyFace s) (λ at. Refused (Map at)) (Done (length (leavesOf s)))
 
 -- ---- the leaf that holds a place
 -- the number of the leaf, where the first is at place p
@@ -94,4 +100,13 @@ leafAt d m p (l ∷ ls) = cond (ltb m (p + sizeOf d l)) 0 (suc (leafAt d m (p + 
 
 -- its offset in the map
 abbrev pub offsetAt : List ℕ → ℕ → ℕ
-offsetAt s m = 19 + 3 * leafAt (rootOf s .d) m 0 (leavesOf s)
+offsetAt s m = headerSize + 3 * leafAt (rootOf s .d) m 0 (leavesOf s)
+
+-- ---- the leaf that holds a point
+-- its place; a point outside the root has none, and gets the first
+unfoldable pub placeOrFirst : Root → Point → ℕ
+placeOrFirst root p = cond (holdsPoint (rootCube root) p) (placeOf root p) 0
+
+-- the root of a map that opens, with the offset of that leaf, or the first fault
+unfoldable pub foundOf : (ℕ → Bool) → List ℕ → Point → Found
+foundOf named s p = onFirst (faultOf named s) Bad (At (rootOf s) (offsetAt s (placeOrFirst (rootOf s) p)))

@@ -1,18 +1,20 @@
 // The zone map: its leaves and its bytes, written and read.
 
 mod opening;
+mod walking;
 
+use cube::Cube;
 use cube::Root;
-pub use opening::eight_to;
 pub use opening::find;
 pub use opening::leaf_at;
 pub use opening::open;
-pub use opening::read_header;
+pub use walking::leaf_count;
+pub use walking::meet;
 ghost use mathlib.Core.Path.{_≡_};
 ghost use Prim.Native.Nat.{_+_, _≤_, _^_};
 ghost use lib.ListN.{length};
 ghost use lib.Seq.{sets};
-ghost use Rattle.zonemap.specs.Map.{leafBytes, cornerBytes, headerOf};
+ghost use Rattle.zonemap.specs.Map.{headerSize, leafBytes, cornerBytes, headerOf};
 
 // A leaf by its level, its class and its face number.
 pub struct Leaf {
@@ -21,23 +23,33 @@ pub struct Leaf {
     pub face: u8,
 }
 
-// What the bytes before the leaves tell: the root, or the offset of their first fault.
+// The root, by the bytes before the leaves, or the offset of the first fault in them.
 pub enum Header {
     Good(Root),
     Bad(usize),
 }
 
-// What the leaves tell: the offset of the leaf that holds a place, or that of the first fault.
+// The offset of the leaf that holds a place, or that of the first fault of the leaves.
 pub enum Scanned {
     At(usize),
     Bad(usize),
 }
 
-// What opening tells: how many leaves the map has, or the offset of its first fault.
-pub enum Opened {
-    Good(usize),
+// The root of a map that opens, with the offset of the leaf that holds a point, or the offset of the map's first fault.
+pub enum Found {
+    At(Root, usize),
     Bad(usize),
 }
+
+// A leaf of a map that opens, the cube that its place gives it, and the place after it.
+pub struct Met {
+    pub leaf: Leaf,
+    pub cube: Cube,
+    pub next: u32,
+}
+
+// The number of bytes before the leaves.
+pub const HEADER: usize = 19;
 
 pub const VERSION: u8 = 1;
 
@@ -51,9 +63,9 @@ fn put_corner(out: &mut [u8], root: Root)
     bigendian::put_i32(out, 13, root.z);
 }
 
-// Writes the 19 bytes before the leaves.
+// Writes the bytes before the leaves.
 pub fn put_header(out: &mut [u8], root: Root, leaves: u32)
-    requires { ⌜ 19 ≤ length (now out) ⌝ ∗ ⌜ leaves ≤ 2 ^ 30 ⌝ }
+    requires { ⌜ headerSize ≤ length (now out) ⌝ ∗ ⌜ leaves ≤ 2 ^ 30 ⌝ }
     ensures { λ _. ⌜ now (out .exit) ≡ sets (now (out .entry)) 0 (headerOf root leaves) ⌝ }
 {
     bigendian::put_u32(out, 0, 15 + 3 * leaves);
@@ -63,7 +75,7 @@ pub fn put_header(out: &mut [u8], root: Root, leaves: u32)
     out[18] = root.d;
 }
 
-// Writes a leaf's three bytes from `at` on, and answers the place after them.
+// Writes a leaf's three bytes from `at` on, and returns the offset after them.
 pub fn put_leaf(out: &mut [u8], at: usize, leaf: Leaf) -> usize
     requires { ⌜ at + 3 ≤ length (now out) ⌝ }
     ensures { λ r. ⌜ (r ≡ at + 3) × (now (out .exit) ≡ sets (now (out .entry)) at (leafBytes leaf)) ⌝ }

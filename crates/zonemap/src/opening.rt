@@ -1,27 +1,32 @@
 // Opening a map: the tests of its bytes, and the leaf that holds a place, in one scan.
 
 ghost use mathlib.Core.Path.{_≡_};
-ghost use mathlib.Core.Bool.{cond, _&&_};
+ghost use mathlib.Core.Bool.{true, cond, _&&_};
 ghost use mathlib.Core.List.{[]};
 ghost use Prim.Native.Nat.{_+_, _-_, _*_, _%_, _≤_, _<_, _^_};
 ghost use lib.Dec.{eqb, leb};
 ghost use lib.ListN.{length};
 ghost use Rattle.integers.specs.First.{onFirst};
+ghost use Rattle.cube.specs.Limits.{inLimits};
 ghost use Rattle.zonemap.specs.declared.Header.the-variants.{Good as GoodHeader, Bad as BadHeader};
 ghost use Rattle.zonemap.specs.declared.Scanned.the-variants.{At, Bad};
-ghost use Rattle.zonemap.specs.Opening.{lengthGood, rootOf, leafIn, leavesOf, levelGood, faceGood, leafGood, sizeOf, leavesFault, headerFault, leafAt, openOf};
+ghost use Rattle.zonemap.specs.Opening.{lengthGood, rootOf, leafIn, leavesOf, levelGood, faceGood, leafGood, sizeOf, leavesFault, headerFault, leafAt, placeOrFirst, foundOf, openOf};
+ghost use Rattle.zonemap.specs.Map.{headerSize};
 ghost use Rattle.zonemap.specs.Inner.{marked};
+use crate::Found;
 use crate::Header;
 use crate::Leaf;
-use crate::Opened;
 use crate::Scanned;
+use cube::Point;
 use cube::Root;
+use replies::Refusal;
+use replies::Reply;
 
 // Whether the length agrees and is 15 + 3n.
 fn length_is_good(map: &[u8]) -> bool
     ensures { λ r. ⌜ r ≡ lengthGood (now (map .entry)) ⌝ }
 {
-    if map.len() < 19 {
+    if map.len() < crate::HEADER {
         return false;
     }
     let follow = bigendian::u32_at(map, 0) as usize;
@@ -33,7 +38,7 @@ fn length_is_good(map: &[u8]) -> bool
 
 // The root by a map's bytes 5 to 18.
 fn root(map: &[u8]) -> Root
-    requires { ⌜ 19 ≤ length (now map) ⌝ }
+    requires { ⌜ headerSize ≤ length (now map) ⌝ }
     ensures { λ r. ⌜ r ≡ rootOf (now (map .entry)) ⌝ }
 {
     Root {
@@ -46,7 +51,7 @@ fn root(map: &[u8]) -> Root
 }
 
 // The root of a map, or the fault in the bytes before its leaves.
-pub fn read_header(map: &[u8]) -> Header
+fn read_header(map: &[u8]) -> Header
     ensures { λ r. ⌜ r ≡ onFirst (headerFault (now (map .entry))) BadHeader (GoodHeader (rootOf (now (map .entry)))) ⌝ }
 {
     if !length_is_good(map) {
@@ -147,13 +152,13 @@ fn last_before(place: u32, m: u32, at: usize, found: usize) -> usize
 }
 
 // The offset of the leaf that holds place m, or that of the first fault of the leaves. A terminal leaf may name the faces that are marked with 1.
-pub fn find(map: &[u8], faces: &[u8], d: u8, m: u32) -> Scanned
-    requires { ⌜ d ≤ 10 ⌝ ∗ ⌜ 19 ≤ length (now map) ⌝ ∗ ⌜ length (now map) % 3 ≡ 1 ⌝ ∗ ⌜ length (now faces) ≡ 256 ⌝ ∗ ⌜ m < 8 ^ d ⌝ }
-    ensures { λ r. ⌜ r ≡ onFirst (leavesFault (marked (now (faces .entry))) d 0 19 (leavesOf (now (map .entry)))) Bad (At (19 + 3 * leafAt d m 0 (leavesOf (now (map .entry))))) ⌝ }
+fn scan(map: &[u8], faces: &[u8], d: u8, m: u32) -> Scanned
+    requires { ⌜ d ≤ 10 ⌝ ∗ ⌜ headerSize ≤ length (now map) ⌝ ∗ ⌜ length (now map) % 3 ≡ 1 ⌝ ∗ ⌜ length (now faces) ≡ 256 ⌝ ∗ ⌜ m < 8 ^ d ⌝ }
+    ensures { λ r. ⌜ r ≡ onFirst (leavesFault (marked (now (faces .entry))) d 0 headerSize (leavesOf (now (map .entry)))) Bad (At (headerSize + 3 * leafAt d m 0 (leavesOf (now (map .entry))))) ⌝ }
 {
     let mut place: u32 = 0;
-    let mut at: usize = 19;
-    let mut found: usize = 19;
+    let mut at: usize = crate::HEADER;
+    let mut found: usize = crate::HEADER;
     while at < map.len() {
         let size = good_size(faces, d, place, leaf_at(map, at));
         if size == 0 {
@@ -169,32 +174,58 @@ pub fn find(map: &[u8], faces: &[u8], d: u8, m: u32) -> Scanned
     Scanned::At(found)
 }
 
-// How many leaves a map has, whose terminal leaves may name any face, or the offset of its first fault.
-pub fn open(map: &[u8]) -> Opened
-    ensures { λ r. ⌜ r ≡ openOf (now (map .entry)) ⌝ }
+// The place of a point. One outside the root has none, and gets the first.
+fn place_or_first(root: Root, p: Point) -> u32
+    requires { ⌜ inLimits root ≡ true ⌝ }
+    ensures { λ r. ⌜ r ≡ placeOrFirst root p ⌝ }
+{
+    if root.cube().holds(p) {
+        return root.place(p);
+    }
+    0
+}
+
+// Opens a map, whose terminal leaves may name the faces that are marked with 1, and finds the leaf that holds a point, in one scan.
+pub fn find(map: &[u8], faces: &[u8], p: Point) -> Found
+    requires { ⌜ length (now faces) ≡ 256 ⌝ }
+    ensures { λ r. ⌜ r ≡ foundOf (marked (now (faces .entry))) (now (map .entry)) p ⌝ }
 {
     match read_header(map) {
         Header::Good(root) => {
-            return open_leaves(map, root);
+            return find_leaf(map, faces, root, p);
         }
         Header::Bad(at) => {
-            return Opened::Bad(at);
+            return Found::Bad(at);
         }
     }
 }
 
-// The leaves of a map whose header is good. Any place will do for the scan, since no leaf is asked for.
-fn open_leaves(map: &[u8], root: Root) -> Opened
-    requires { ⌜ headerFault (now map) ≡ [] ⌝ ∗ ⌜ root ≡ rootOf (now map) ⌝ }
+// The same of a map whose header is good. The leaves are tested wherever the point is, so one outside the root is looked for at the first place.
+fn find_leaf(map: &[u8], faces: &[u8], root: Root, p: Point) -> Found
+    requires { ⌜ length (now faces) ≡ 256 ⌝ ∗ ⌜ headerFault (now map) ≡ [] ⌝ ∗ ⌜ root ≡ rootOf (now map) ⌝ }
+    ensures { λ r. ⌜ r ≡ foundOf (marked (now (faces .entry))) (now (map .entry)) p ⌝ }
+{
+    match scan(map, faces, root.d, place_or_first(root, p)) {
+        Scanned::At(at) => {
+            return Found::At(root, at);
+        }
+        Scanned::Bad(at) => {
+            return Found::Bad(at);
+        }
+    }
+}
+
+// Opens a map whose terminal leaves may name any face, and returns the number of its leaves. No leaf is asked for, so any point will do.
+pub fn open(map: &[u8]) -> Reply
     ensures { λ r. ⌜ r ≡ openOf (now (map .entry)) ⌝ }
 {
     let every_face = [1u8; 256];
-    match find(map, &every_face, root.d, 0) {
-        Scanned::At(_) => {
-            return Opened::Good((map.len() - 19) / 3);
+    match find(map, &every_face, Point { x: 0, y: 0, z: 0 }) {
+        Found::At(_, _) => {
+            return Reply::Done((map.len() - crate::HEADER) / 3);
         }
-        Scanned::Bad(at) => {
-            return Opened::Bad(at);
+        Found::Bad(at) => {
+            return Reply::Refused(Refusal::Map(at));
         }
     }
 }

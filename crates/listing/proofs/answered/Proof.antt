@@ -1,5 +1,5 @@
 -- `listing::answered` meets its contract: a map that opens has its 19 bytes before the leaves.
-use Rattle.zonemap.proofs.Found.{opens-sizes}
+use Rattle.zonemap.proofs.Finding.{opens-sizes}
 use borrow.Author.Needs.{needs}
 use Rattle.listing.proofs.answered.Statement.{statement}
 use Rattle.listing.proofs.answered.Tie as tie

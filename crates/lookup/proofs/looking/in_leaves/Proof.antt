@@ -1,6 +1,6 @@
 -- `lookup::looking::in_leaves` meets its contract: the marks are those of the sheet's faces, so what the scan tells is what opening does.
 use Rattle.cube.proofs.Limits.{limits-sizes}
-use Rattle.zonemap.proofs.Found.{header-sizes}
+use Rattle.zonemap.proofs.Finding.{header-sizes}
 use Rattle.lookup.proofs.Steps.{root-within, first-below, good-leaves, bad-leaves}
 use borrow.Author.Needs.{needs}
 use Rattle.lookup.proofs.looking.in_leaves.Statement.{statement}

@@ -31,8 +31,8 @@ stop-requires c κs = search needs
 returns-4 : tie.Need-returns-4
 returns-4 c = search (needs, bad-record)
 
-sorted-requires : tie.Need-sorted-requires
-sorted-requires c κs = search needs
+check-records-requires : tie.Need-check-records-requires
+check-records-requires c κs = search needs
 
 returns-5 : tie.Need-returns-5
 returns-5 c = search (needs, all-framed)
@@ -50,5 +50,5 @@ check-spec =
     returns-3
     stop-requires
     returns-4
-    sorted-requires
+    check-records-requires
     returns-5)

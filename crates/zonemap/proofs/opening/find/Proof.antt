@@ -1,77 +1,38 @@
--- `zonemap::opening::find` meets its contract: the leaves that are left tell what the whole does.
+-- `zonemap::opening::find` meets its contract: a fault of the header is the first of the map, and after it come the leaves.
+use Rattle.zonemap.proofs.Opens.{header-none, header-root, header-found}
 use borrow.Author.Needs.{needs}
-use Prim.Native.Nat.{_-_}
-use native.Mathlib.Omega.{arith}
-use lib.Dec.{eqb}
-use lib.ListN.{length, getD}
-use Rattle.zonemap.proofs.Scan.{Scan, scan-start, scan-room, scan-bad, scan-on, scan-good, scan-short}
 use Rattle.zonemap.proofs.opening.find.Statement.{statement}
 use Rattle.zonemap.proofs.opening.find.Tie as tie
+use Rattle.zonemap.proofs.opening.find.Reads as reads
+use Rattle.zonemap.proofs.opening.find.Lts as lts
+use Rattle.zonemap.proofs.opening.find_leaf.Reads as find-leaf-reads
+use Rattle.zonemap.proofs.opening.read_header.Reads as read-header-reads
 
-abbrev Inv-loop : tie.InvT-loop
-Inv-loop map faces d m place₀ at₀ found₀ place at found = Scan (λ f. eqb (getD faces f 0) 1) map d m place at found
+read-header-requires : tie.Need-read-header-requires
+read-header-requires c κs = search needs
 
-abbrev μ-loop : tie.MeasureT-loop
-μ-loop map faces d m place₀ at₀ found₀ place at found = length map - at
+enum-known-root : tie.Need-enum-known-root
+enum-known-root c = search needs
 
-loop-holds : tie.Need-loop-holds Inv-loop μ-loop
-loop-holds c =
-    scan-start _ _ _ _ (c .before .before .pre .0) (c .before .before .pre .1 .1 .0)
+find-leaf-requires : tie.Need-find-leaf-requires
+find-leaf-requires c κs = search (needs, header-none, header-root)
 
-leaf-at-requires : tie.Need-leaf-at-requires Inv-loop μ-loop
-leaf-at-requires c κs = omega (arith, c .loop-test .taken, c .before .loop .inv .beat, c .before .loop .inv .whole)
+returns : tie.Need-returns
+returns c = search needs
 
-good-size-requires : tie.Need-good-size-requires Inv-loop μ-loop
-good-size-requires c κs =
-    (c .before .before .before .before .before .pre .0, (omega (arith, c .before .before .loop .inv .room, c .before .before .loop .inv .small), c .before .before .before .before .before .pre .1 .1 .1 .0))
+enum-known-at : tie.Need-enum-known-at
+enum-known-at c = search needs
 
-returns : tie.Need-returns Inv-loop μ-loop
-returns c =
-    scan-bad _ _ _ _ _ _ _ (c .before .before .before .before .loop .inv) _ (c .before .before .leaf-at .ensures) _ (c .before .good-size .ensures) (c .before .before .before .loop-test .taken) (c .if1 .taken)
-
-last-before-requires : tie.Need-last-before-requires Inv-loop μ-loop
-last-before-requires c κs = search needs
-
-add-place : tie.Need-add-place Inv-loop μ-loop
-add-place c =
-    omega (arith, scan-room _ _ _ _ _ _ _ (c .before .before .before .before .before .loop .inv) _ (c .before .before .before .leaf-at .ensures) _ (c .before .before .good-size .ensures))
-
-add-at : tie.Need-add-at Inv-loop μ-loop
-add-at c = omega (arith, c .before .before .before .before .loop-test .taken)
-
-loop-less : tie.Need-loop-less Inv-loop μ-loop
-loop-less c = omega (arith, c .before .before .before .before .loop-test .taken)
-
-loop-again : tie.Need-loop-again Inv-loop μ-loop
-loop-again c =
-    scan-on _ _ _ _ _ _ _ (c .before .before .before .before .before .loop .inv) _ (c .before .before .before .leaf-at .ensures) _ (c .before .before .good-size .ensures) (c .before .before .before .before .loop-test .taken) _ (c .before .if1 .left) (c .last-before .ensures)
-
-eight-to-requires : tie.Need-eight-to-requires Inv-loop μ-loop
-eight-to-requires c κs = c .before .before .before .before .pre .0
-
-returns-2 : tie.Need-returns-2 Inv-loop μ-loop
-returns-2 c =
-    scan-short _ _ _ _ _ _ _ (c .before .before .before .loop .inv) (c .before .before .loop-test .left) (omega (arith, c .before .eight-to .ensures, c .if2 .taken, c .before .before .before .loop .inv .room))
-
-returns-3 : tie.Need-returns-3 Inv-loop μ-loop
-returns-3 c =
-    scan-good _ _ _ _ _ _ _ (c .before .before .before .loop .inv) (c .before .before .loop-test .left) (c .before .before .before .before .before .before .pre .1 .1 .1 .1) (omega (arith, c .before .eight-to .ensures, c .if2 .left, c .before .before .before .loop .inv .room))
+returns-2 : tie.Need-returns-2
+returns-2 c = search (needs, header-found)
 
 pub find-spec : {M : Type 1} → statement M
 find-spec =
     tie.close
     (tie.spec
-    Inv-loop
-    μ-loop
-    loop-holds
-    leaf-at-requires
-    good-size-requires
+    read-header-requires
+    enum-known-root
+    find-leaf-requires
     returns
-    last-before-requires
-    add-place
-    add-at
-    loop-less
-    loop-again
-    eight-to-requires
-    returns-2
-    returns-3)
+    enum-known-at
+    returns-2)

@@ -1,34 +1,34 @@
--- `zonemap::opening::open` meets its contract: a fault of the header is the map's first, and after it come the leaves.
-use Rattle.zonemap.proofs.Opens.{header-good, bad-header-opens}
+-- `zonemap::opening::open` meets its contract: every face is marked.
+use Rattle.zonemap.proofs.Opens.{opened-long, opened, not-opened}
 use borrow.Author.Needs.{needs}
 use Rattle.zonemap.proofs.opening.open.Statement.{statement}
 use Rattle.zonemap.proofs.opening.open.Tie as tie
+use Rattle.zonemap.proofs.opening.open.Reads as reads
+use Rattle.zonemap.proofs.opening.open.Lts as lts
+use Rattle.zonemap.proofs.opening.find.Reads as find-reads
 
-read-header-requires : tie.Need-read-header-requires
-read-header-requires c κs = search needs
+slice-aggregate-find : tie.Need-slice-aggregate-find
+slice-aggregate-find c = search needs
 
-enum-known-root : tie.Need-enum-known-root
-enum-known-root c = search needs
+find-requires : tie.Need-find-requires
+find-requires c κs = search needs
 
-open-leaves-requires : tie.Need-open-leaves-requires
-open-leaves-requires c κs = header-good _ _ (c .before .before .before .read-header .ensures) _ (c .before .root .given .1)
+enum-told : tie.Need-enum-told
+enum-told c = search needs
+
+sub-t9 : tie.Need-sub-t9
+sub-t9 c = search (needs, opened-long)
 
 returns : tie.Need-returns
-returns c = search needs
+returns c = search (needs, opened)
 
 enum-known-at : tie.Need-enum-known-at
 enum-known-at c = search needs
 
 returns-2 : tie.Need-returns-2
-returns-2 c = search (needs, bad-header-opens)
+returns-2 c = search (needs, not-opened)
 
 pub open-spec : {M : Type 1} → statement M
 open-spec =
     tie.close
-    (tie.spec
-    read-header-requires
-    enum-known-root
-    open-leaves-requires
-    returns
-    enum-known-at
-    returns-2)
+    (tie.spec slice-aggregate-find find-requires enum-told sub-t9 returns enum-known-at returns-2)

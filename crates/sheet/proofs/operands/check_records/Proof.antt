@@ -1,12 +1,12 @@
--- `sheet::operands::sorted` meets its contract. The invariant is `Sorting`: n records are done, and the array holds their sorts. The measure is what is left to come.
+-- `sheet::operands::check_records` meets its contract. The invariant is `Sorting`: n records are done, and the array holds their sorts. The measure is what is left to come.
 use mathlib.Core.Path.{sym, refl, _∙_}
 use native.Mathlib.Omega.{arith}
 use borrow.Author.Needs.{needs}
 use borrow.Author.Tests.{not-true, not-false}
 use Rattle.sheet.proofs.Walk.{fewer-left, at-next}
 use Rattle.sheet.proofs.Sorting.{Sorting, sorting-start, unmet, sorting-next, sorted-end}
-use Rattle.sheet.proofs.operands.sorted.Statement.{statement}
-use Rattle.sheet.proofs.operands.sorted.Tie as tie
+use Rattle.sheet.proofs.operands.check_records.Statement.{statement}
+use Rattle.sheet.proofs.operands.check_records.Tie as tie
 
 abbrev Inv-loop : tie.InvT-loop
 Inv-loop s sorts₀ last₀ n₀ c₀ sorts last n c = Sorting s sorts last n c
@@ -83,8 +83,8 @@ loop-again : tie.Need-loop-again Inv-loop μ-loop
 loop-again c =
     sorting-next _ _ _ _ _ (c .before .before .before .before .before .before .before .before .before .before .before .before .loop .inv) _ _ (sym (c .before .before .before .before .before .before .before .before .before .before .before .read .ensures) ∙ c .before .before .before .before .before .before .before .before .before .r .given .1) _ _ _ _ _ _ (c .before .before .before .before .before .before .before .first .ensures) (c .before .before .before .before .before .second .ensures) (c .before .before .before .asked .ensures) refl refl (c .before .before .met .ensures) _ (not-false _ (c .before .if1 .left)) (c .sort .ensures)
 
-pub sorted-spec : {M : Type 1} → statement M
-sorted-spec =
+pub check-records-spec : {M : Type 1} → statement M
+check-records-spec =
     tie.close
     (tie.spec
     Inv-loop

@@ -1,9 +1,9 @@
--- `lookup::looking::place_or_first` meets its contract.
+-- `zonemap::opening::place_or_first` meets its contract.
 use Rattle.cube.proofs.Limits.{limits-sizes}
-use Rattle.lookup.proofs.Steps.{place-inside, place-outside, root-holds}
+use Rattle.zonemap.proofs.Opens.{place-inside, place-outside, root-holds}
 use borrow.Author.Needs.{needs}
-use Rattle.lookup.proofs.looking.place_or_first.Statement.{statement}
-use Rattle.lookup.proofs.looking.place_or_first.Tie as tie
+use Rattle.zonemap.proofs.opening.place_or_first.Statement.{statement}
+use Rattle.zonemap.proofs.opening.place_or_first.Tie as tie
 
 cube-requires : tie.Need-cube-requires
 cube-requires c κs = limits-sizes _ (c .pre) .0

@@ -1,0 +1,38 @@
+-- The table of replies: the code of each refusal, and the number returned with it, in the order of test.
+use Prim.Native.Nat.{ℕ}
+use mathlib.Core.List.{List, [], _∷_}
+use Rattle.replies.specs.declared.Refusal.{Refusal}
+use Rattle.replies.specs.declared.Refusal.the-variants.{Length, Version, Record, Operand, Solid, Limits, Map, OverRoot, OverSmaller, Short, NotInRoot}
+use Rattle.replies.specs.declared.Reply.{Reply}
+use Rattle.replies.specs.declared.Reply.the-variants.{Done, Refused}
+
+abbrev pub codeOf : Refusal → ℕ
+codeOf Length = 1
+codeOf Version = 2
+codeOf (Record at) = 3
+codeOf (Operand n) = 4
+codeOf (Solid n) = 5
+codeOf Limits = 6
+codeOf (Map at) = 9
+codeOf (OverRoot n) = 7
+codeOf (OverSmaller n) = 11
+codeOf (Short n) = 8
+codeOf NotInRoot = 10
+
+abbrev pub numberOf : Refusal → ℕ
+numberOf Length = 0
+numberOf Version = 0
+numberOf (Record at) = at
+numberOf (Operand n) = n
+numberOf (Solid n) = n
+numberOf Limits = 0
+numberOf (Map at) = at
+numberOf (OverRoot n) = n
+numberOf (OverSmaller n) = n
+numberOf (Short n) = n
+numberOf NotInRoot = 0
+
+-- the refusal of a reply, where it is one
+abbrev pub refusalOf : Reply → List Refusal
+refusalOf (Done n) = []
+refusalOf (Refused why) = why ∷ []

@@ -1,0 +1,63 @@
+// Document 01's table of replies: why a call refuses, with the code and the number of each refusal.
+
+ghost use mathlib.Core.Path.{_≡_};
+ghost use Rattle.replies.specs.Table.{codeOf, numberOf};
+
+// Why a call refuses, in the order of test.
+pub enum Refusal {
+    Length,
+    Version,
+    Record(usize),
+    Operand(usize),
+    Solid(usize),
+    Limits,
+    Map(usize),
+    OverRoot(usize),
+    OverSmaller(usize),
+    Short(usize),
+    NotInRoot,
+}
+
+// What a call returns that counts something: records, leaves or bytes.
+pub enum Reply {
+    Done(usize),
+    Refused(Refusal),
+}
+
+impl Refusal {
+    pub fn code(self) -> u32
+        ensures { λ r. ⌜ r ≡ codeOf self ⌝ }
+    {
+        match self {
+            Refusal::Length => 1,
+            Refusal::Version => 2,
+            Refusal::Record(_) => 3,
+            Refusal::Operand(_) => 4,
+            Refusal::Solid(_) => 5,
+            Refusal::Limits => 6,
+            Refusal::Map(_) => 9,
+            Refusal::OverRoot(_) => 7,
+            Refusal::OverSmaller(_) => 11,
+            Refusal::Short(_) => 8,
+            Refusal::NotInRoot => 10,
+        }
+    }
+
+    pub fn number(self) -> usize
+        ensures { λ r. ⌜ r ≡ numberOf self ⌝ }
+    {
+        match self {
+            Refusal::Length => 0,
+            Refusal::Version => 0,
+            Refusal::Record(at) => at,
+            Refusal::Operand(n) => n,
+            Refusal::Solid(n) => n,
+            Refusal::Limits => 0,
+            Refusal::Map(at) => at,
+            Refusal::OverRoot(n) => n,
+            Refusal::OverSmaller(n) => n,
+            Refusal::Short(n) => n,
+            Refusal::NotInRoot => 0,
+        }
+    }
+}

@@ -8,29 +8,29 @@ use borrow.Author.Tests.{ltb-false}
 use lib.Dec.{ltb}
 use lib.ListN.{length, drop}
 use Rattle.integers.proofs.Order.{by-test}
+use Rattle.replies.specs.declared.Refusal.the-variants.{Limits, OverRoot, OverSmaller, Short}
+use Rattle.replies.specs.declared.Reply.{Reply}
+use Rattle.replies.specs.declared.Reply.the-variants.{Done, Refused}
+use Rattle.replies.specs.Table.{refusalOf}
 use Rattle.sheet.specs.declared.Record.{Record}
-use Rattle.sheet.specs.declared.Checked.{Checked}
-use Rattle.sheet.specs.declared.Checked.the-variants.{Good, Refused}
 use Rattle.sheet.specs.Records.{recordsOf}
 use Rattle.sheet.specs.Check.{checkOf}
 use Rattle.cube.specs.declared.Root.{Root}
 use Rattle.cube.specs.Limits.{inLimits}
 use Rattle.cube.specs.Cubes.{rootCube}
-use Rattle.building.specs.declared.Reply.{Reply}
-use Rattle.building.specs.declared.Reply.the-variants.{Done, Sheet, Limits, OverRoot, OverSmaller, Short}
 use Rattle.colour.specs.Entries.{firstPast}
-use Rattle.building.specs.Solid.{pastInTree}
+use Rattle.tree.specs.Solid.{pastInTree}
 use Rattle.integers.specs.First.{onFirst}
 use Rattle.integers.proofs.First.{none-first}
-use Rattle.building.specs.Build.{Outcome, outcome, builtMap, storedOf, overRootOf, onSheet, buildOf, numberOf}
+use Rattle.building.specs.Build.{Outcome, outcome, builtMap, storedOf, overRootOf, buildOf}
 
 abbrev isDone : Reply → Bool
 isDone (Done n) = true
-isDone (Sheet why) = false
-isDone Limits = false
-isDone (OverRoot n) = false
-isDone (OverSmaller n) = false
-isDone (Short n) = false
+isDone (Refused why) = false
+
+abbrev countOf : Reply → ℕ
+countOf (Done n) = n
+countOf (Refused why) = 0
 
 module _ (n : ℕ) (out after : List ℕ) where
   abbrev done : Outcome
@@ -40,15 +40,15 @@ module _ (n : ℕ) (out after : List ℕ) where
   no-other o h e = absurd (true≢false (ap (λ (o : Outcome). isDone (o .reply)) e ∙ h))
 
   -- a list whose first would decide for another reply is empty
-  not-first : (ns : List ℕ) (f : ℕ → Outcome) (rest : Outcome) → ((k : ℕ) → isDone (f k .reply) ≡ false) → done ≡ onFirst ns f rest → (ns ≡ []) × (done ≡ rest)
-  not-first ns f rest h = none-first (λ (o : Outcome). done ≡ o) f rest ns (λ k. no-other (f k) (h k))
+  not-first : {A : Type 0} (firsts : List A) (f : A → Outcome) (rest : Outcome) → ((a : A) → isDone (f a .reply) ≡ false) → done ≡ onFirst firsts f rest → (firsts ≡ []) × (done ≡ rest)
+  not-first firsts f rest h = none-first (λ (o : Outcome). done ≡ o) f rest firsts (λ a. no-other (f a) (h a))
 
   stored : (map : List ℕ) → done ≡ storedOf map out → (n ≡ length map) × (length map ≤ length out) × (after ≡ map ++ drop (length map) out)
   unfolding storedOf
   stored map e =
       by-test (ltb (length out) (length map))
-      (λ h. no-other (outcome (Short (length map)) out) refl (rw h at e))
-      (λ h. (ap (λ (o : Outcome). numberOf (o .reply)) (rw h at e), ltb-false (length out) (length map) h, ap (λ (o : Outcome). o .buffer) (rw h at e)))
+      (λ h. no-other (outcome (Refused (Short (length map))) out) refl (rw h at e))
+      (λ h. (ap (λ (o : Outcome). countOf (o .reply)) (rw h at e), ltb-false (length out) (length map) h, ap (λ (o : Outcome). o .buffer) (rw h at e)))
 
   -- the map of these records over this root stands at the start of the buffer
   pub record Made (rs : List Record) (root : Root) : Type 0 where
@@ -70,16 +70,14 @@ module _ (n : ℕ) (out after : List ℕ) where
     solid-made e =
         by-test (inLimits root)
         (λ h.
-        let p = not-first (firstPast rs (rootCube root)) (λ k. outcome (OverRoot k) out) _ (λ k. refl) (rw h at e) in
-        stored-made h (p .0) (not-first (pastInTree rs (root .d) (rootCube root)) (λ k. outcome (OverSmaller k) out) _ (λ k. refl) (p .1)))
-        (λ h. no-other (outcome Limits out) refl (rw h at e))
+        let p = not-first (firstPast rs (rootCube root)) (λ k. outcome (Refused (OverRoot k)) out) _ (λ k. refl) (rw h at e) in
+        stored-made h (p .0) (not-first (pastInTree rs (root .d) (rootCube root)) (λ k. outcome (Refused (OverSmaller k)) out) _ (λ k. refl) (p .1)))
+        (λ h. no-other (outcome (Refused Limits) out) refl (rw h at e))
 
 module _ (s : List ℕ) (root : Root) (out after : List ℕ) (n : ℕ) where
-  sheet-made : (checked : Checked) → checkOf s ≡ checked → outcome (Done n) after ≡ onSheet checked (recordsOf s) root out → ((k : ℕ) × (checkOf s ≡ Good k)) × Made n out after (recordsOf s) root
-  sheet-made (Good k) c e = ((k, c), solid-made n out after (recordsOf s) root e)
-  sheet-made (Refused why) c e = no-other n out after (outcome (Sheet why) out) refl e
-
   -- the sheet is good, and its map stands at the start of the buffer
-  pub done-made : outcome (Done n) after ≡ buildOf s root out → ((k : ℕ) × (checkOf s ≡ Good k)) × Made n out after (recordsOf s) root
+  pub done-made : outcome (Done n) after ≡ buildOf s root out → (refusalOf (checkOf s) ≡ []) × Made n out after (recordsOf s) root
   unfolding buildOf
-  done-made e = sheet-made (checkOf s) refl e
+  done-made e =
+      let t = not-first n out after (refusalOf (checkOf s)) (λ why. outcome (Refused why) out) _ (λ why. refl) e in
+      (t .0, solid-made n out after (recordsOf s) root (t .1))

@@ -9,10 +9,11 @@ use borrow.Author.Tests.{lt-ltb, le-ltb}
 use lib.ListN.{length}
 use lib.Seq.{sets, sets-eq, length-sets}
 use Rattle.integers.proofs.Stores.{sets-append}
+use Rattle.replies.specs.declared.Refusal.{Refusal}
+use Rattle.replies.specs.declared.Refusal.the-variants.{Limits, OverRoot, Short}
+use Rattle.replies.specs.declared.Reply.{Reply}
+use Rattle.replies.specs.declared.Reply.the-variants.{Done, Refused}
 use Rattle.sheet.specs.declared.Record.{Record}
-use Rattle.sheet.specs.declared.Refusal.{Refusal}
-use Rattle.sheet.specs.declared.Checked.{Checked}
-use Rattle.sheet.specs.declared.Checked.the-variants.{Good, Refused}
 use Rattle.sheet.specs.Records.{recordsOf}
 use Rattle.sheet.specs.Check.{checkOf}
 use Rattle.cube.specs.declared.Root.{Root}
@@ -24,19 +25,19 @@ use Rattle.colour.specs.Entries.{firstPast}
 use Rattle.zonemap.specs.declared.Leaf.{Leaf}
 use Rattle.zonemap.specs.Map.{headerOf, leavesBytes, mapOf}
 use Rattle.zonemap.proofs.Bytes.{header-length, map-length}
-use Rattle.building.specs.declared.Reply.the-variants.{Done, Sheet, Limits, OverRoot, Short}
-use Rattle.building.specs.Solid.{leavesBelow}
+use Rattle.tree.specs.Solid.{leavesBelow}
 use Rattle.building.specs.Build.{Outcome, outcome, builtMap, storedOf, overRootOf, buildOf}
-use Rattle.building.proofs.Cubes.{leaves-few, none-below}
+use Rattle.tree.proofs.Cubes.{leaves-few, none-below}
 
 -- ---- replies 1 to 5
-pub bad-sheet : (s : List ℕ) (root : Root) (d : List ℕ) (c : Checked) (why : Refusal) → c ≡ checkOf s → c ≡ Refused why → outcome (Sheet why) d ≡ buildOf s root d
-unfolding buildOf
-bad-sheet s root d c why e h = rw (sym e ∙ h)
+module _ (s : List ℕ) (root : Root) (d : List ℕ) (r : Reply) (e : r ≡ checkOf s) where
+  pub bad-sheet : (why : Refusal) → r ≡ Refused why → outcome (Refused why) d ≡ buildOf s root d
+  unfolding buildOf
+  bad-sheet why h = rw (sym e ∙ h)
 
-pub good-sheet : (s : List ℕ) (root : Root) (d : List ℕ) (c : Checked) (n : ℕ) (o : Outcome) → c ≡ checkOf s → c ≡ Good n → o ≡ overRootOf (recordsOf s) root d → o ≡ buildOf s root d
-unfolding buildOf
-good-sheet s root d c n o e h k = rw (sym e ∙ h) k
+  pub good-sheet : (n : ℕ) (o : Outcome) → r ≡ Done n → o ≡ overRootOf (recordsOf s) root d → o ≡ buildOf s root d
+  unfolding buildOf
+  good-sheet n o h k = rw (sym e ∙ h) k
 
 -- ---- what the functions on the way learn
 module _ (rs : List Record) (root : Root) where
@@ -55,13 +56,13 @@ module _ (rs : List Record) (root : Root) (d : List ℕ) where
   ls = leavesBelow rs (root .d) top
 
   -- ---- reply 6
-  pub outside : inLimits root ≡ false → outcome Limits d ≡ overRootOf rs root d
+  pub outside : inLimits root ≡ false → outcome (Refused Limits) d ≡ overRootOf rs root d
   unfolding overRootOf
   outside h = rw h
 
   module _ (within : inLimits root ≡ true) where
     -- ---- reply 7
-    pub over-root : (n : ℕ) → firstPast rs top ≡ n ∷ [] → outcome (OverRoot n) d ≡ overRootOf rs root d
+    pub over-root : (n : ℕ) → firstPast rs top ≡ n ∷ [] → outcome (Refused (OverRoot n)) d ≡ overRootOf rs root d
     unfolding overRootOf
     over-root n h = rw (within, h)
 
@@ -76,7 +77,7 @@ module _ (rs : List Record) (root : Root) (d : List ℕ) where
       unfolding builtMap
       length-is = map-length root ls ∙ rw count
 
-      pub too-short : length d < 19 + 3 * n → outcome (Short (19 + 3 * n)) d ≡ storedOf (builtMap rs root) d
+      pub too-short : length d < 19 + 3 * n → outcome (Refused (Short (19 + 3 * n))) d ≡ storedOf (builtMap rs root) d
       unfolding storedOf
       too-short h = rw (length-is, lt-ltb (length d) (19 + 3 * n) h)
 

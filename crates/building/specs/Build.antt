@@ -5,19 +5,19 @@ use mathlib.Core.List.{List, _++_}
 use lib.Dec.{ltb}
 use lib.ListN.{length, drop}
 use Rattle.integers.specs.First.{onFirst}
+use Rattle.replies.specs.declared.Refusal.the-variants.{Limits, OverRoot, OverSmaller, Short}
+use Rattle.replies.specs.declared.Reply.{Reply}
+use Rattle.replies.specs.declared.Reply.the-variants.{Done, Refused}
+use Rattle.replies.specs.Table.{refusalOf}
 use Rattle.sheet.specs.declared.Record.{Record}
-use Rattle.sheet.specs.declared.Checked.{Checked}
-use Rattle.sheet.specs.declared.Checked.the-variants.{Good, Refused}
 use Rattle.sheet.specs.Records.{recordsOf}
-use Rattle.sheet.specs.Check.{checkOf, codeOf as codeOfSheet, numberOf as numberOfSheet}
+use Rattle.sheet.specs.Check.{checkOf}
 use Rattle.cube.specs.declared.Root.{Root}
 use Rattle.cube.specs.Limits.{inLimits}
 use Rattle.cube.specs.Cubes.{rootCube}
 use Rattle.zonemap.specs.Map.{mapOf}
-use Rattle.building.specs.declared.Reply.{Reply}
-use Rattle.building.specs.declared.Reply.the-variants.{Done, Sheet, Limits, OverRoot, OverSmaller, Short}
 use Rattle.colour.specs.Entries.{firstPast}
-use Rattle.building.specs.Solid.{leavesBelow, pastInTree}
+use Rattle.tree.specs.Solid.{leavesBelow, pastInTree}
 
 -- the reply, and the bytes of the lent buffer afterwards
 pub record Outcome : Type 0 where
@@ -34,39 +34,17 @@ builtMap rs root = mapOf root (leavesBelow rs (root .d) (rootCube root))
 -- from reply 8 on: building writes at the start of the lent buffer; later bytes stay
 unfoldable pub storedOf : List ℕ → List ℕ → Outcome
 storedOf map out =
-    cond (ltb (length out) (length map)) (outcome (Short (length map)) out)
+    cond (ltb (length out) (length map)) (outcome (Refused (Short (length map))) out)
     (outcome (Done (length map)) (map ++ drop (length map) out))
 
 -- from reply 6 on, of the records of a good sheet
 unfoldable pub overRootOf : List Record → Root → List ℕ → Outcome
 overRootOf rs root out =
-    cond (not (inLimits root)) (outcome Limits out)
-    (onFirst (firstPast rs (rootCube root)) (λ n. outcome (OverRoot n) out)
-    (onFirst (pastInTree rs (root .d) (rootCube root)) (λ n. outcome (OverSmaller n) out)
+    cond (not (inLimits root)) (outcome (Refused Limits) out)
+    (onFirst (firstPast rs (rootCube root)) (λ n. outcome (Refused (OverRoot n)) out)
+    (onFirst (pastInTree rs (root .d) (rootCube root)) (λ n. outcome (Refused (OverSmaller n)) out)
     (storedOf (builtMap rs root) out)))
 
--- replies 1 to 5
-abbrev pub onSheet : Checked → List Record → Root → List ℕ → Outcome
-onSheet (Good n) rs root out = overRootOf rs root out
-onSheet (Refused why) rs root out = outcome (Sheet why) out
-
--- building from the table of replies, row by row
+-- building from the table of replies, row by row: first replies 1 to 5
 unfoldable pub buildOf : List ℕ → Root → List ℕ → Outcome
-buildOf s root out = onSheet (checkOf s) (recordsOf s) root out
-
--- the code and the number of each reply
-abbrev pub codeOf : Reply → ℕ
-codeOf (Done n) = 0
-codeOf (Sheet why) = codeOfSheet why
-codeOf Limits = 6
-codeOf (OverRoot n) = 7
-codeOf (OverSmaller n) = 11
-codeOf (Short n) = 8
-
-abbrev pub numberOf : Reply → ℕ
-numberOf (Done n) = n
-numberOf (Sheet why) = numberOfSheet why
-numberOf Limits = 0
-numberOf (OverRoot n) = n
-numberOf (OverSmaller n) = n
-numberOf (Short n) = n
+buildOf s root out = onFirst (refusalOf (checkOf s)) (λ why. outcome (Refused why) out) (overRootOf (recordsOf s) root out)

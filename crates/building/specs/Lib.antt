@@ -1,3 +1,1 @@
-pub mod Tree
-pub mod Solid
 pub mod Build

@@ -11,11 +11,10 @@ ghost use Rattle.cube.specs.Limits.{inLimits};
 ghost use Rattle.cube.specs.Cubes.{rootCube};
 ghost use Rattle.colour.specs.Entries.{firstPast};
 ghost use Rattle.building.specs.Build.{outcome, builtMap, storedOf, overRootOf, buildOf};
-use crate::Reply;
-use crate::leaves;
 use colour::Judged;
 use cube::Root;
-use sheet::Checked;
+use replies::Refusal;
+use replies::Reply;
 
 // Builds the zone map of a sheet over a root at the start of `out`; where it refuses, `out` stays as it is.
 pub fn build(sheet: &[u8], x: i32, y: i32, z: i32, k: u8, d: u8, out: &mut [u8]) -> Reply
@@ -23,11 +22,11 @@ pub fn build(sheet: &[u8], x: i32, y: i32, z: i32, k: u8, d: u8, out: &mut [u8])
 {
     let root = Root { x, y, z, k, d };
     match sheet::check(sheet) {
-        Checked::Good(n) => {
+        Reply::Done(n) => {
             return over_root(sheet, (n - 1) as u8, root, out);
         }
-        Checked::Refused(why) => {
-            return Reply::Sheet(why);
+        Reply::Refused(why) => {
+            return Reply::Refused(why);
         }
     }
 }
@@ -38,7 +37,7 @@ fn over_root(sheet: &[u8], solid: u8, root: Root, out: &mut [u8]) -> Reply
     ensures { λ r. ⌜ outcome r (now (out .exit)) ≡ overRootOf (recordsOf (now (sheet .entry))) root (now (out .entry)) ⌝ }
 {
     if !root.is_within() {
-        return Reply::Limits;
+        return Reply::Refused(Refusal::Limits);
     }
     let count = solid as usize + 1;
     let mut offsets = [0u16; 256];
@@ -48,7 +47,7 @@ fn over_root(sheet: &[u8], solid: u8, root: Root, out: &mut [u8]) -> Reply
             return stored(sheet, &offsets, solid, root, out);
         }
         Judged::Past(n) => {
-            return Reply::OverRoot(n);
+            return Reply::Refused(Refusal::OverRoot(n));
         }
     }
 }
@@ -58,12 +57,12 @@ fn stored(sheet: &[u8], offsets: &[u16], solid: u8, root: Root, out: &mut [u8]) 
     requires { ⌜ Offsets (now offsets) (now sheet) ⌝ ∗ ⌜ solid + 1 ≡ length (recordsOf (now sheet)) ⌝ ∗ ⌜ inLimits root ≡ true ⌝ ∗ ⌜ firstPast (recordsOf (now sheet)) (rootCube root) ≡ [] ⌝ }
     ensures { λ r. ⌜ outcome r (now (out .exit)) ≡ storedOf (builtMap (recordsOf (now (sheet .entry))) root) (now (out .entry)) ⌝ }
 {
-    let n = leaves::count(sheet, offsets, solid, root.cube(), root.d);
-    let need = 19 + 3 * n;
+    let n = tree::count(sheet, offsets, solid, root.cube(), root.d);
+    let need = zonemap::HEADER + 3 * n;
     if out.len() < need {
-        return Reply::Short(need);
+        return Reply::Refused(Refusal::Short(need));
     }
     zonemap::put_header(out, root, n as u32);
-    let _end = leaves::write(sheet, offsets, out, 19, solid, root.cube(), root.d);
+    let _end = tree::write(sheet, offsets, out, zonemap::HEADER, solid, root.cube(), root.d);
     Reply::Done(need)
 }

@@ -19,7 +19,7 @@ use Rattle.colour.proofs.Smaller.{none-keep}
 use Rattle.zonemap.specs.Opening.{rootOf, leavesOf, faultOf}
 use Rattle.zonemap.specs.Leaves.{nthLeaf, nthCube}
 use Rattle.zonemap.proofs.Bytes.{map-length}
-use Rattle.building.specs.Solid.{leafOf}
+use Rattle.tree.specs.Solid.{leafOf}
 use Rattle.building.specs.Build.{builtMap}
 use Rattle.building.proofs.Answers.{Made}
 use Rattle.roundtrip.proofs.Built.{all, built-opens, built-root, built-leaves, leaf-is}

@@ -18,7 +18,7 @@ use Rattle.zonemap.proofs.Bytes.{map-length}
 use Rattle.zonemap.specs.StepRoom.{stepRoot, stepMap}
 use Rattle.colour.specs.States.{faceState}
 use Rattle.colour.proofs.Rows.{product-row, square-row, unrelated-row}
-use Rattle.building.specs.Solid.{leavesBelow}
+use Rattle.tree.specs.Solid.{leavesBelow}
 use Rattle.building.specs.Build.{builtMap, storedOf, buildOf}
 use Rattle.building.proofs.Rows.{depth-2, build-0, build-1, build-2, one-face}
 use Rattle.lookup.proofs.Rows.{by-face-5, inside-2-0-0, outside-3-0-0, undecided-2-2-0, not-in-root-4-0-0}

@@ -19,7 +19,7 @@ use Rattle.colour.specs.Held.{stateBy}
 use Rattle.colour.proofs.Filling.{back-again}
 use Rattle.soundness.specs.Claims.{Sound}
 use Rattle.soundness.proofs.StatesSound.{states-sound}
-use Rattle.building.specs.Solid.{solidState, leafBy, leafOf}
+use Rattle.tree.specs.Solid.{solidState, leafBy, leafOf}
 use Rattle.roundtrip.proofs.Named.{solid-good}
 use Rattle.demands.specs.Terms.{Built, Touches}
 use Rattle.demands.specs.Demands.{Agrees}

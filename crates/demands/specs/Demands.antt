@@ -16,7 +16,7 @@ use Rattle.meaning.specs.Truth.{holdsAt, inSolid}
 use Rattle.zonemap.specs.declared.Leaf.{Leaf}
 use Rattle.zonemap.specs.Opening.{rootOf, leavesOf, anyFace}
 use Rattle.zonemap.specs.Leaves.{nthLeaf, nthCube}
-use Rattle.building.specs.Solid.{leafOf}
+use Rattle.tree.specs.Solid.{leafOf}
 use Rattle.building.specs.Build.{builtMap}
 use Rattle.zone.specs.declared.ZoneReply.{ZoneReply}
 use Rattle.zone.specs.Replies.{reply, zoneCheckOf, ZoneOutcome, zoneOutcome, zoneBuildOf, zoneOpenOf, zoneLookupOf}

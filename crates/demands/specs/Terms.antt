@@ -23,7 +23,7 @@ use Rattle.meaning.specs.Fractions.{FractionalPoint, InClosed}
 use Rattle.colour.specs.Entries.{blank, entries}
 use Rattle.zonemap.specs.Opening.{rootOf, leavesOf}
 use Rattle.zonemap.specs.Leaves.{nthLeaf, nthPlace, nthCube}
-use Rattle.building.specs.Solid.{pastInTree}
+use Rattle.tree.specs.Solid.{pastInTree}
 use Rattle.building.specs.Build.{builtMap}
 use Rattle.zone.specs.declared.ZoneReply.{ZoneReply}
 use Rattle.zone.specs.Replies.{reply, zoneOutcome, zoneBuildOf}

@@ -27,10 +27,10 @@ use Rattle.zonemap.proofs.Trip.{leaves-back, root-back, map-opens}
 use Rattle.colour.specs.declared.State.{State}
 use Rattle.colour.specs.declared.State.the-variants.{Out, In, Single, Comp, Mixed}
 use Rattle.colour.specs.States.{classOf}
-use Rattle.building.specs.Tree.{upto}
-use Rattle.building.specs.Solid.{solidState, isGray, leafBy, leafOf, leavesBelow}
+use Rattle.tree.specs.Visit.{upto}
+use Rattle.tree.specs.Solid.{solidState, isGray, leafBy, leafOf, leavesBelow}
 use Rattle.building.specs.Build.{builtMap}
-use Rattle.building.proofs.Cubes.{kidLeaves, kid-leaves, leaves-split, leaves-end, leaves-flat, leaves-few}
+use Rattle.tree.proofs.Cubes.{kidLeaves, kid-leaves, leaves-split, leaves-end, leaves-flat, leaves-few}
 use Rattle.roundtrip.proofs.Named.{solid-good}
 
 -- n runs of one size, one after the other

@@ -19,7 +19,7 @@ use Rattle.colour.specs.declared.State.{State}
 use Rattle.colour.specs.declared.State.the-variants.{Out, In, Single, Comp, Mixed}
 use Rattle.colour.specs.States.{isIn, isOut, faceState, complementOf, bothOf, eitherOf, stateOf}
 use Rattle.colour.specs.Entries.{Entry, blank, entryOf, entries}
-use Rattle.building.specs.Solid.{solidState, leafBy}
+use Rattle.tree.specs.Solid.{solidState, leafBy}
 
 module _ (rs : List Record) where
   -- the face that a state names, where it names one, is a face of the sheet

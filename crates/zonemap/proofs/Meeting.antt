@@ -1,5 +1,5 @@
 -- Each leaf of a map that opens: its bytes are in the map, its level is one that the root has, and its place ends in the root.
-use mathlib.Core.Path.{_≡_, refl, sym, ap, _∙_}
+use mathlib.Core.Path.{_≡_, sym, _∙_}
 use mathlib.Core.Bool.{Bool, true}
 use mathlib.Core.List.{List, [], _∷_}
 use Prim.Native.Nat.{ℕ, zero, suc, _+_, _-_, _*_, _/_, _^_, _≤_, _<_}
@@ -17,7 +17,7 @@ use Rattle.zonemap.specs.declared.Met.{Met}
 use Rattle.zonemap.specs.Opening.{rootOf, leafIn, leavesOf, sizeOf, faultOf}
 use Rattle.zonemap.specs.Leaves.{placeAt, nowhere, nthLeaf, nthPlace, nthCube}
 use Rattle.zonemap.proofs.Powers.{power-below}
-use Rattle.zonemap.proofs.Runs.{Run, Fine, opens-run, run-at, good-level, good-place}
+use Rattle.zonemap.proofs.Runs.{Fine, opens-run, run-at, good-level, good-place}
 use Rattle.zonemap.proofs.Finding.{leaves-count, leaf-bytes, opens-parts, opens-sizes}
 
 -- the place of the next leaf

@@ -31,13 +31,13 @@ same-length c = search needs
 
 returns : tie.Need-returns
 returns c =
-    good-sheet _ _ _ _ _ _ (c .before .before .before .before .before .before .before .check .ensures) (c .before .before .before .before .before .n .given .1) (rw (toZ-ofZ (c .before .before .before .before .before .before .before .before .before .before .fits .x), toZ-ofZ (c .before .before .before .before .before .before .before .before .before .before .fits .y), toZ-ofZ (c .before .before .before .before .before .before .before .before .before .before .fits .z)) at (c .before .before .over-root .ensures))
+    good-sheet _ _ _ _ (c .before .before .before .before .before .before .before .check .ensures) _ _ (c .before .before .before .before .before .n .given .1) (rw (toZ-ofZ (c .before .before .before .before .before .before .before .before .before .before .fits .x), toZ-ofZ (c .before .before .before .before .before .before .before .before .before .before .fits .y), toZ-ofZ (c .before .before .before .before .before .before .before .before .before .before .fits .z)) at (c .before .before .over-root .ensures))
 
 enum-known-why : tie.Need-enum-known-why
 enum-known-why c = search needs
 
 returns-2 : tie.Need-returns-2
-returns-2 c = bad-sheet _ _ _ _ _ (c .before .before .before .check .ensures) (c .before .why .given .1)
+returns-2 c = bad-sheet _ _ _ _ (c .before .before .before .check .ensures) _ (c .before .why .given .1)
 
 pub build-spec : {M : Type 1} → statement M
 build-spec =

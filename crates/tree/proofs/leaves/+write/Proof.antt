@@ -6,20 +6,20 @@ use borrow.Author.Tests.{not-true, not-false, eqb-true, eqb-false}
 use mathlib.Core.Logic.{⊎-elim}
 use Rattle.sheet.specs.Records.{recordsOf}
 use Rattle.cube.proofs.Cubes.{near-fewer, child-near}
-use Rattle.building.proofs.Cubes.{gray-is, flat-is, child-none, leaves-end, leaves-flat}
-use Rattle.building.proofs.Stores.{leaf-room, leaf-put, Writing, writing-start, writing-length, writing-all, child-room, writing-next}
+use Rattle.tree.proofs.Cubes.{gray-is, flat-is, child-none, leaves-end, leaves-flat}
+use Rattle.tree.proofs.Stores.{leaf-room, leaf-put, Writing, writing-start, writing-length, writing-all, child-room, writing-next}
 use Prim.Native.Nat.{ℕ, _<_}
 use borrow.Fn.Kinds.{In}
 use borrow.Fn.PlainCycle.{Measures, is, falls, and}
-use Rattle.building.proofs.leaves.write.Reads as write
-use Rattle.building.proofs.leaves.write.Kinds as write-kinds
-use Rattle.building.proofs.leaves.+write.Lts-write as write-lts
-use Rattle.building.proofs.leaves.put.Reads as put-reads
-use Rattle.building.proofs.leaves.solid_state.Reads as solid-state-reads
+use Rattle.tree.proofs.leaves.write.Reads as write
+use Rattle.tree.proofs.leaves.write.Kinds as write-kinds
+use Rattle.tree.proofs.leaves.+write.Lts-write as write-lts
+use Rattle.tree.proofs.leaves.put.Reads as put-reads
+use Rattle.tree.proofs.leaves.solid_state.Reads as solid-state-reads
 use Rattle.colour.proofs.State.class.Reads as class-reads
 use Rattle.cube.proofs.Cube.child.Reads as child-reads
-use Rattle.building.proofs.leaves.+write.{statement}
-use Rattle.building.proofs.leaves.+write.Tie.{close}
+use Rattle.tree.proofs.leaves.+write.{statement}
+use Rattle.tree.proofs.leaves.+write.Tie.{close}
 
 abbrev μ-write : Measures 3 write-kinds.ps ℕ
 μ-write κs a = a .1 .1 .1 .1 .1 .1 .0

@@ -13,10 +13,10 @@ use Rattle.colour.specs.declared.State.{State}
 use Rattle.zonemap.specs.declared.Leaf.{Leaf}
 use Rattle.zonemap.specs.Map.{leafBytes, leavesBytes}
 use Rattle.zonemap.proofs.Bytes.{leaves-bytes-length, leaves-bytes-append}
-use Rattle.building.specs.Tree.{upto}
-use Rattle.building.specs.Solid.{solidState, leafBy, leafOf, leavesBelow}
-use Rattle.building.proofs.Tree.{upto-none, upto-more, upto-length, upto-most}
-use Rattle.building.proofs.Cubes.{kidLeaves, kid-leaves, leaves-split, Split}
+use Rattle.tree.specs.Visit.{upto}
+use Rattle.tree.specs.Solid.{solidState, leafBy, leafOf, leavesBelow}
+use Rattle.tree.proofs.Visits.{upto-none, upto-more, upto-length, upto-most}
+use Rattle.tree.proofs.Cubes.{kidLeaves, kid-leaves, leaves-split, Split}
 
 -- the leaves ls, written into d from `at` on: the place after them, and the bytes
 abbrev Put : List Leaf → List ℕ → ℕ → ℕ → List ℕ → Type 0

@@ -8,10 +8,10 @@ use lib.ListN.{length}
 use Rattle.sheet.specs.declared.Record.{Record}
 use Rattle.cube.specs.declared.Cube.{Cube}
 use Rattle.cube.specs.Cubes.{childOf}
-use Rattle.building.specs.Tree.{upto}
-use Rattle.building.specs.Solid.{isGray, leavesBelow}
-use Rattle.building.proofs.Tree.{upto-none, upto-length, upto-most}
-use Rattle.building.proofs.Cubes.{kidLeaves, kid-leaves, leaves-split, leaves-end, leaves-flat, leaves-few, Split}
+use Rattle.tree.specs.Visit.{upto}
+use Rattle.tree.specs.Solid.{isGray, leavesBelow}
+use Rattle.tree.proofs.Visits.{upto-none, upto-length, upto-most}
+use Rattle.tree.proofs.Cubes.{kidLeaves, kid-leaves, leaves-split, leaves-end, leaves-flat, leaves-few, Split}
 
 -- a cube that is not split
 module _ (rs : List Record) (left : ℕ) (q : Cube) where

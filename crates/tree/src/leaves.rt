@@ -1,5 +1,5 @@
-// The leaves of a tree of cubes: counted, and written. Each calls itself on the eight children of a gray cube; the levels left fall by one.
-// Where no record's bounds pass the limit over a cube, none do over a smaller one: so it is asked of the first cube, and of no other.
+// The leaves below a cube: counted, and written. Each function calls itself on the eight children of a gray cube, with one level fewer left.
+// Where no record passes the limit over a cube, none does over a smaller one, so the limit is tested for the first cube and no other.
 
 ghost use mathlib.Core.Path.{_≡_};
 ghost use Prim.Native.Nat.{_+_, _*_, _≤_};
@@ -11,14 +11,14 @@ ghost use Rattle.records.specs.Offsets.{Offsets};
 ghost use Rattle.cube.specs.Limits.{Near};
 ghost use Rattle.colour.specs.Entries.{firstPast};
 ghost use Rattle.zonemap.specs.Map.{leafBytes, leavesBytes};
-ghost use Rattle.building.specs.Solid.{solidState, leafBy, leavesBelow};
+ghost use Rattle.tree.specs.Solid.{solidState, leafBy, leavesBelow};
 use colour::Judged;
 use colour::State;
 use cube::Cube;
 use zonemap::Leaf;
 
-// The solid's state over a cube. As no record's bounds pass the limit there, the second arm is never met.
-fn solid_state(s: &[u8], offsets: &[u16], solid: u8, q: Cube) -> State
+// The solid's state over a cube. No record passes the limit there, so the second arm is never reached.
+pub fn solid_state(s: &[u8], offsets: &[u16], solid: u8, q: Cube) -> State
     requires { ⌜ Offsets (now offsets) (now s) ⌝ ∗ ⌜ solid + 1 ≡ length (recordsOf (now s)) ⌝ ∗ ⌜ Near 0 q ⌝ ∗ ⌜ firstPast (recordsOf (now s)) q ≡ [] ⌝ }
     ensures { λ r. ⌜ r ≡ solidState (recordsOf (now (s .entry))) q ⌝ }
 {
@@ -50,7 +50,7 @@ pub fn count(s: &[u8], offsets: &[u16], solid: u8, q: Cube, left: u8) -> usize
     total
 }
 
-// A leaf at `at`: the place after it.
+// Writes a leaf at offset `at`, and returns the offset after it.
 fn put(out: &mut [u8], at: usize, level: u8, state: State) -> usize
     requires { ⌜ at + 3 ≤ length (now out) ⌝ }
     ensures { λ r. ⌜ (r ≡ at + 3) × (now (out .exit) ≡ sets (now (out .entry)) at (leafBytes (leafBy level state))) ⌝ }
@@ -63,7 +63,7 @@ fn put(out: &mut [u8], at: usize, level: u8, state: State) -> usize
     zonemap::put_leaf(out, at, leaf)
 }
 
-// The leaves below a cube, written from `at` on: the place after them.
+// Writes the leaves below a cube from offset `at` on, and returns the offset after them.
 pub fn write(
     s: &[u8],
     offsets: &[u16],

@@ -1,7 +1,7 @@
--- `building::leaves::put` meets its contract.
+-- `tree::leaves::put` meets its contract.
 use borrow.Author.Needs.{needs}
-use Rattle.building.proofs.leaves.put.Statement.{statement}
-use Rattle.building.proofs.leaves.put.Tie as tie
+use Rattle.tree.proofs.leaves.put.Statement.{statement}
+use Rattle.tree.proofs.leaves.put.Tie as tie
 
 class-requires : tie.Need-class-requires
 class-requires c κs = search needs

@@ -1,8 +1,8 @@
--- `building::leaves::solid_state` meets its contract: where no record passes the limit, the state is known.
-use Rattle.building.proofs.Cubes.{known-state, not-past}
+-- `tree::leaves::solid_state` meets its contract: where no record passes the limit, the state is known.
+use Rattle.tree.proofs.Cubes.{known-state, not-past}
 use borrow.Author.Needs.{needs}
-use Rattle.building.proofs.leaves.solid_state.Statement.{statement}
-use Rattle.building.proofs.leaves.solid_state.Tie as tie
+use Rattle.tree.proofs.leaves.solid_state.Statement.{statement}
+use Rattle.tree.proofs.leaves.solid_state.Tie as tie
 
 add-judge : tie.Need-add-judge
 add-judge c = search needs

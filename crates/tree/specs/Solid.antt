@@ -10,7 +10,7 @@ use Rattle.colour.specs.declared.State.{State}
 use Rattle.colour.specs.States.{classOf, faceOf}
 use Rattle.colour.specs.Entries.{blank, entries, firstPast}
 use Rattle.zonemap.specs.declared.Leaf.{Leaf}
-use Rattle.building.specs.Tree.{visit}
+use Rattle.tree.specs.Visit.{visit}
 
 -- The last record is the solid. Its state over a cube:
 unfoldable pub solidState : List Record → Cube → State

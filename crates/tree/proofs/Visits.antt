@@ -10,7 +10,7 @@ use native.Mathlib.Omega.{arith}
 use lib.ListN.{length, length-append}
 use Rattle.cube.specs.declared.Cube.{Cube}
 use Rattle.cube.specs.Cubes.{childOf}
-use Rattle.building.specs.Tree.{upto, visit}
+use Rattle.tree.specs.Visit.{upto, visit}
 
 -- ---- lists end to end
 module _ {A : Type 0} (f : ℕ → List A) where

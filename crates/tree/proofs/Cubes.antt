@@ -21,9 +21,9 @@ use Rattle.colour.specs.Entries.{blank, entries, judgedOf, firstPast}
 use Rattle.colour.specs.States.{classOf}
 use Rattle.colour.proofs.Told.{known-is, past-first}
 use Rattle.colour.proofs.Smaller.{none-smaller}
-use Rattle.building.specs.Tree.{upto}
-use Rattle.building.specs.Solid.{solidState, isGray, leafOf, leavesBelow, pastInTree}
-use Rattle.building.proofs.Tree.{kid, upto-nothing, visit-end, visit-flat, visit-gray, visit-most}
+use Rattle.tree.specs.Visit.{upto}
+use Rattle.tree.specs.Solid.{solidState, isGray, leafOf, leavesBelow, pastInTree}
+use Rattle.tree.proofs.Visits.{kid, upto-nothing, visit-end, visit-flat, visit-gray, visit-most}
 
 -- a cube that is split
 pub record Split (rs : List Record) (left : ℕ) (q : Cube) : Type 0 where

@@ -4,19 +4,19 @@ use native.Mathlib.Omega.{arith}
 use Prim.Native.Nat.{_-_}
 use Rattle.sheet.specs.Records.{recordsOf}
 use Rattle.cube.proofs.Cubes.{near-fewer, child-near}
-use Rattle.building.proofs.Cubes.{gray-is, flat-is, child-none}
-use Rattle.building.proofs.Count.{Counting, one-end, one-flat, counting-start, counted-all, counting-room, counting-next}
+use Rattle.tree.proofs.Cubes.{gray-is, flat-is, child-none}
+use Rattle.tree.proofs.Counting.{Counting, one-end, one-flat, counting-start, counted-all, counting-room, counting-next}
 use Prim.Native.Nat.{ℕ, _<_}
 use borrow.Fn.Kinds.{In}
 use borrow.Fn.PlainCycle.{Measures, is, falls, and}
-use Rattle.building.proofs.leaves.count.Reads as count
-use Rattle.building.proofs.leaves.count.Kinds as count-kinds
-use Rattle.building.proofs.leaves.+count.Lts-count as count-lts
-use Rattle.building.proofs.leaves.solid_state.Reads as solid-state-reads
+use Rattle.tree.proofs.leaves.count.Reads as count
+use Rattle.tree.proofs.leaves.count.Kinds as count-kinds
+use Rattle.tree.proofs.leaves.+count.Lts-count as count-lts
+use Rattle.tree.proofs.leaves.solid_state.Reads as solid-state-reads
 use Rattle.colour.proofs.State.class.Reads as class-reads
 use Rattle.cube.proofs.Cube.child.Reads as child-reads
-use Rattle.building.proofs.leaves.+count.{statement}
-use Rattle.building.proofs.leaves.+count.Tie.{close}
+use Rattle.tree.proofs.leaves.+count.{statement}
+use Rattle.tree.proofs.leaves.+count.Tie.{close}
 
 abbrev μ-count : Measures 2 count-kinds.ps ℕ
 μ-count κs a = a .1 .1 .1 .1 .0

@@ -1,0 +1,5 @@
+pub mod Visits
+pub mod Cubes
+pub mod Counting
+pub mod Stores
+pub mod Rows

@@ -7,6 +7,7 @@ use lib.IntN.{pos}
 use Rattle.bigendian.specs.Numbers.{unsignedAt, signed32}
 use Rattle.interval.specs.Rules.{difference}
 use Rattle.interval.specs.Limit.{isSmall, isWithin}
+use Rattle.replies.specs.declared.Refusal.the-variants.{NotInRoot}
 use Rattle.sheet.specs.Along.{along, onward}
 use Rattle.sheet.specs.StepRoom.{stepSheet, stepRecords}
 use Rattle.sheet.proofs.StepRoom.{step-records, step-check}
@@ -20,9 +21,10 @@ use Rattle.zonemap.specs.StepRoom.{stepMap}
 use Rattle.colour.specs.Bounds.{across, boundsOf}
 use Rattle.colour.specs.States.{faceState, bothOf, stateOf}
 use Rattle.colour.specs.Entries.{entryOf, beforePast, firstPast}
+use Rattle.pair.specs.Pairs.{pairRefusal}
 use Rattle.lookup.specs.declared.Answer.the-variants.{Outside, Inside, Undecided}
-use Rattle.lookup.specs.declared.Reply.the-variants.{Done, NotInRoot}
-use Rattle.lookup.specs.Lookup.{faceHolds, answerOf, leafHolding, mapReply, lookupOf}
+use Rattle.lookup.specs.declared.Reply.the-variants.{Done, Refused}
+use Rattle.lookup.specs.Lookup.{faceHolds, answerOf, leafHolding, pointReply, lookupOf}
 
 -- a point with z 0
 abbrev at : ℕ → ℕ → Point
@@ -39,8 +41,8 @@ unfolding firstPast beforePast along onward entryOf boundsOf across difference i
 none = refl
 
 -- so a point is out of the root, or its leaf answers
-step-lookup : (p : Point) → lookupOf stepSheet stepMap p ≡ cond (not (holdsPoint (rootCube (rootOf stepMap)) p)) NotInRoot (Done (answerOf stepRecords (leafHolding stepMap p) p))
-unfolding lookupOf mapReply
+step-lookup : (p : Point) → lookupOf stepSheet stepMap p ≡ cond (not (holdsPoint (rootCube (rootOf stepMap)) p)) (Refused NotInRoot) (Done (answerOf stepRecords (leafHolding stepMap p) p))
+unfolding lookupOf pairRefusal pointReply
 step-lookup p = rw (step-check, step-records, opens, none)
 
 -- the leaf that holds (2,0,0) is terminal, and names face 5
@@ -61,6 +63,6 @@ unfolding rootOf leafIn leavesIn leafAt placeOf placeBy unsignedAt signed32 leaf
 undecided-2-2-0 = step-lookup (at 2 2)
 
 -- on a high plane
-pub not-in-root-4-0-0 : lookupOf stepSheet stepMap (at 4 0) ≡ NotInRoot
+pub not-in-root-4-0-0 : lookupOf stepSheet stepMap (at 4 0) ≡ Refused NotInRoot
 unfolding rootOf unsignedAt signed32 rootCube holdsPoint axisHolds
 not-in-root-4-0-0 = step-lookup (at 4 0)

@@ -1,19 +1,14 @@
 -- What the functions on the way to an answer ask and tell. Only inner contracts cite this.
 use mathlib.Core.Path.{_≡_}
-use mathlib.Core.Bool.{cond, true}
+use mathlib.Core.Bool.{true}
 use mathlib.Core.List.{List, []}
-use Prim.Native.Nat.{ℕ}
 use Rattle.sheet.specs.declared.Record.{Record}
 use Rattle.cube.specs.declared.Point.{Point}
 use Rattle.cube.specs.declared.Root.{Root}
 use Rattle.cube.specs.Limits.{inLimits}
 use Rattle.cube.specs.Cubes.{rootCube}
-use Rattle.cube.specs.Points.{holdsPoint, placeOf}
+use Rattle.cube.specs.Points.{holdsPoint}
 use Rattle.colour.specs.Entries.{firstPast}
-
--- the place of a point; of one outside the root, which has none, the first
-unfoldable pub placeOrFirst : Root → Point → ℕ
-placeOrFirst root p = cond (holdsPoint (rootCube root) p) (placeOf root p) 0
 
 -- a point of a root over which no record passes the limit
 pub record Judgeable (rs : List Record) (root : Root) (p : Point) : Type 0 where

@@ -5,23 +5,23 @@ use mathlib.Core.List.{List}
 use lib.Dec.{eqb}
 use lib.ListN.{getD}
 use Rattle.integers.specs.First.{onFirst}
+use Rattle.replies.specs.declared.Refusal.the-variants.{OverRoot, NotInRoot}
+use Rattle.replies.specs.declared.Reply.{Reply as Counted}
+use Rattle.replies.specs.declared.Reply.the-variants.{Done as Counts, Refused as Refuses}
 use Rattle.sheet.specs.declared.Record.{Record}
-use Rattle.sheet.specs.declared.Checked.{Checked}
-use Rattle.sheet.specs.declared.Checked.the-variants.{Good, Refused}
 use Rattle.sheet.specs.Records.{recordsOf}
-use Rattle.sheet.specs.Check.{checkOf, codeOf as codeOfSheet, numberOf as numberOfSheet}
-use Rattle.records.specs.Faces.{hasFace}
 use Rattle.cube.specs.declared.Point.{Point}
 use Rattle.cube.specs.Cubes.{rootCube}
 use Rattle.cube.specs.Points.{holdsPoint, pointCube, placeOf}
 use Rattle.zonemap.specs.declared.Leaf.{Leaf}
-use Rattle.zonemap.specs.Opening.{rootOf, leafIn, offsetAt, faultOf}
+use Rattle.zonemap.specs.Opening.{rootOf, leafIn, offsetAt}
 use Rattle.colour.specs.States.{isIn}
 use Rattle.colour.specs.Entries.{blank, entries, firstPast}
+use Rattle.pair.specs.Pairs.{pairRefusal}
 use Rattle.lookup.specs.declared.Answer.{Answer}
 use Rattle.lookup.specs.declared.Answer.the-variants.{Outside, Inside, Undecided}
 use Rattle.lookup.specs.declared.Reply.{Reply}
-use Rattle.lookup.specs.declared.Reply.the-variants.{Done, Sheet, Map, OverRoot, NotInRoot}
+use Rattle.lookup.specs.declared.Reply.the-variants.{Done, Refused}
 
 -- A face at a point. A point is a cube of side 0, over which bounds are exact: the face's operand there is at most 0 exactly where its state is In.
 unfoldable pub faceHolds : List Record → ℕ → Point → Bool
@@ -43,39 +43,24 @@ answerOf rs l p =
 unfoldable pub leafHolding : List ℕ → Point → Leaf
 leafHolding map p = leafIn map (offsetAt map (placeOf (rootOf map) p))
 
--- from reply 9 on, of the records of a good sheet
-unfoldable pub mapReply : List Record → List ℕ → Point → Reply
-mapReply rs map p =
-    onFirst (faultOf (hasFace rs) map) Map
-    (onFirst (firstPast rs (rootCube (rootOf map))) OverRoot
-    (cond (not (holdsPoint (rootCube (rootOf map)) p)) NotInRoot
-    (Done (answerOf rs (leafHolding map p) p))))
+-- from reply 10 on
+unfoldable pub pointReply : List Record → List ℕ → Point → Reply
+pointReply rs map p = cond (not (holdsPoint (rootCube (rootOf map)) p)) (Refused NotInRoot) (Done (answerOf rs (leafHolding map p) p))
 
--- replies 1 to 5
-abbrev pub onSheet : Checked → List Record → List ℕ → Point → Reply
-onSheet (Good n) rs map p = mapReply rs map p
-onSheet (Refused why) rs map p = Sheet why
-
--- looking up from the table of replies, row by row
+-- looking up from the table of replies, row by row: 1 to 5 and 9, then 7, then 10
 unfoldable pub lookupOf : List ℕ → List ℕ → Point → Reply
-lookupOf s map p = onSheet (checkOf s) (recordsOf s) map p
+lookupOf s map p =
+    onFirst (pairRefusal s map) Refused
+    (onFirst (firstPast (recordsOf s) (rootCube (rootOf map))) (λ n. Refused (OverRoot n))
+    (pointReply (recordsOf s) map p))
 
--- the code and the number of each reply
+-- lookup: 0 outside, 1 inside, 2 undecided
 abbrev pub answerNumber : Answer → ℕ
 answerNumber Outside = 0
 answerNumber Inside = 1
 answerNumber Undecided = 2
 
-abbrev pub codeOf : Reply → ℕ
-codeOf (Done answer) = 0
-codeOf (Sheet why) = codeOfSheet why
-codeOf (Map at) = 9
-codeOf (OverRoot n) = 7
-codeOf NotInRoot = 10
-
-abbrev pub numberOf : Reply → ℕ
-numberOf (Done answer) = answerNumber answer
-numberOf (Sheet why) = numberOfSheet why
-numberOf (Map at) = at
-numberOf (OverRoot n) = n
-numberOf NotInRoot = 0
+-- the reply with its answer by number
+abbrev pub numbered : Reply → Counted
+numbered (Done answer) = Counts (answerNumber answer)
+numbered (Refused why) = Refuses why

@@ -1,9 +1,10 @@
 // Looking a position up in a zone map.
 
 mod looking;
-mod replies;
+mod numbers;
 
 pub use looking::lookup;
+use replies::Refusal;
 
 // Where a position lies.
 pub enum Answer {
@@ -12,11 +13,8 @@ pub enum Answer {
     Undecided,
 }
 
-// What looking up answers: where the position lies, or why that is not known.
+// Where the position lies, or why that is refused.
 pub enum Reply {
     Done(Answer),
-    Sheet(sheet::Refusal),
-    Map(usize),
-    OverRoot(usize),
-    NotInRoot,
+    Refused(Refusal),
 }

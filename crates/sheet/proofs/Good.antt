@@ -1,5 +1,5 @@
 -- What a sheet that was found good tells: no row refused it, it has so many records, and there is a last one.
-use mathlib.Core.Path.{_≡_, refl}
+use mathlib.Core.Path.{_≡_, refl, sym, _∙_}
 use mathlib.Core.Bool.{false}
 use mathlib.Core.List.{List, [], _∷_}
 use Prim.Native.Nat.{ℕ, zero, suc, _<_, _≤_}
@@ -15,6 +15,7 @@ use Rattle.sheet.specs.declared.Read.{Read}
 use Rattle.sheet.specs.declared.Read.the-variants.{Found, Refused}
 use Rattle.replies.specs.declared.Refusal.{Refusal}
 use Rattle.replies.specs.declared.Refusal.the-variants.{Length, Version, Operand, Solid, Record as BadRecord}
+use Rattle.replies.specs.declared.Reply.{Reply}
 use Rattle.replies.specs.declared.Reply.the-variants.{Done, Refused as Bad}
 use Rattle.sheet.specs.Table.{readAt}
 use Rattle.sheet.specs.Records.{onRead, readFrom, reading, recordsOf, stopOf}
@@ -75,9 +76,10 @@ records-few s = few-from 256 s 3
 pub number-few : (s : List ℕ) (count n : ℕ) → count ≡ length (recordsOf s) → n < count → n < 256
 number-few s count n e h = omega (arith, records-few s)
 
-module _ (s : List ℕ) (n : ℕ) (e : checkOf s ≡ Done n) where
+-- r is what `check` returned
+module _ (s : List ℕ) (r : Reply) (e : r ≡ checkOf s) (n : ℕ) (d : r ≡ Done n) where
   sorted : (n ≡ length (recordsOf s)) × (firstUnmet [] (recordsOf s) ≡ length (recordsOf s)) × (lastSort (recordsOf s) ≡ Logical)
-  sorted = sorted-good (recordsOf s) n (check-parts s n e .3)
+  sorted = sorted-good (recordsOf s) n (check-parts s n (sym e ∙ d) .3)
 
   pub good-count : n ≡ length (recordsOf s)
   good-count = sorted .0

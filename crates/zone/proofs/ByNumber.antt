@@ -1,30 +1,51 @@
--- The reply by number, where the call behind it answered so.
-use mathlib.Core.Path.{_≡_, sym, _∙_}
+-- The reply by number, where the call behind it returned so.
+use mathlib.Core.Path.{_≡_, ap, _∙_}
 use mathlib.Core.List.{List}
 use Prim.Native.Nat.{ℕ}
-use Rattle.sheet.specs.declared.Refusal.{Refusal}
-use Rattle.sheet.specs.declared.Checked.{Checked}
-use Rattle.sheet.specs.declared.Checked.the-variants.{Good, Refused}
-use Rattle.sheet.specs.Check.{checkOf, codeOf, numberOf}
-use Rattle.zonemap.specs.declared.Opened.{Opened}
-use Rattle.zonemap.specs.declared.Opened.the-variants.{Good as Opens, Bad}
+use lib.IntN.{ℤ}
+use mir.Syntax.{w32}
+use mir.Val.{SFits, toZ, ofZ}
+use mir.Facts.{toZ-ofZ}
+use Rattle.replies.specs.declared.Refusal.{Refusal}
+use Rattle.replies.specs.declared.Reply.{Reply}
+use Rattle.replies.specs.declared.Reply.the-variants.{Done, Refused}
+use Rattle.replies.specs.Table.{codeOf, numberOf}
+use Rattle.sheet.specs.Check.{checkOf}
 use Rattle.zonemap.specs.Opening.{openOf}
-use Rattle.zone.specs.Replies.{reply, zoneCheckOf, zoneOpenOf}
+use Rattle.building.specs.Build.{Outcome, outcome, buildOf}
+use Rattle.lookup.specs.declared.Reply.{Reply as LookupReply}
+use Rattle.lookup.specs.Lookup.{lookupOf, numbered}
+use Rattle.zone.specs.declared.ZoneReply.{ZoneReply}
+use Rattle.zone.specs.Replies.{reply, byNumber, zoneCheckOf, zoneOutcome, outcomeByNumber, zoneBuildOf, zoneOpenOf, zoneLookupOf}
 
-module _ (s : List ℕ) (checked : Checked) (e : checked ≡ checkOf s) where
-  pub good-sheet : (n : ℕ) → checked ≡ Good n → reply 0 n ≡ zoneCheckOf s
+-- ---- one table
+module _ (r : Reply) where
+  pub done-by-number : (n : ℕ) → r ≡ Done n → reply 0 n ≡ byNumber r
+  done-by-number n h = rw h
+
+  pub refused-by-number : (why : Refusal) (code number : ℕ) → r ≡ Refused why → code ≡ codeOf why → number ≡ numberOf why → reply code number ≡ byNumber r
+  refused-by-number why code number h c n = rw (h, c, n)
+
+-- ---- each call: r is what the call behind it returned, and told is r by number
+module _ (r : Reply) (told : ZoneReply) (t : told ≡ byNumber r) where
+  pub checks : (s : List ℕ) → r ≡ checkOf s → told ≡ zoneCheckOf s
   unfolding zoneCheckOf
-  good-sheet n h = rw (sym e ∙ h)
+  checks s e = t ∙ ap byNumber e
 
-  pub bad-sheet : (why : Refusal) (code number : ℕ) → checked ≡ Refused why → code ≡ codeOf why → number ≡ numberOf why → reply code number ≡ zoneCheckOf s
-  unfolding zoneCheckOf
-  bad-sheet why code number h c n = rw (sym e ∙ h, c, n)
-
-module _ (map : List ℕ) (opened : Opened) (e : opened ≡ openOf map) where
-  pub good-map : (n : ℕ) → opened ≡ Opens n → reply 0 n ≡ zoneOpenOf map
+  pub opens : (map : List ℕ) → r ≡ openOf map → told ≡ zoneOpenOf map
   unfolding zoneOpenOf
-  good-map n h = rw (sym e ∙ h)
+  opens map e = t ∙ ap byNumber e
 
-  pub bad-map : (at : ℕ) → opened ≡ Bad at → reply 9 at ≡ zoneOpenOf map
-  unfolding zoneOpenOf
-  bad-map at h = rw (sym e ∙ h)
+-- x, y and z are handed on by their bits
+module _ (x y z : ℤ) (fx : SFits w32 x) (fy : SFits w32 y) (fz : SFits w32 z) where
+  pub builds : (r : Reply) (told : ZoneReply) → told ≡ byNumber r → (s : List ℕ) (k d : ℕ) (out after : List ℕ)
+      → outcome r after ≡ buildOf s (record { x = toZ w32 (ofZ w32 x); y = toZ w32 (ofZ w32 y); z = toZ w32 (ofZ w32 z); k = k; d = d }) out
+      → zoneOutcome told after ≡ zoneBuildOf s (record { x = x; y = y; z = z; k = k; d = d }) out
+  unfolding zoneBuildOf
+  builds r told t s k d out after e = rw t (ap outcomeByNumber (rw (toZ-ofZ fx, toZ-ofZ fy, toZ-ofZ fz) at e))
+
+  pub looks-up : (l : LookupReply) (r : Reply) → r ≡ numbered l → (told : ZoneReply) → told ≡ byNumber r → (s map : List ℕ)
+      → l ≡ lookupOf s map (record { x = toZ w32 (ofZ w32 x); y = toZ w32 (ofZ w32 y); z = toZ w32 (ofZ w32 z) })
+      → told ≡ zoneLookupOf s map (record { x = x; y = y; z = z })
+  unfolding zoneLookupOf
+  looks-up l r n told t s map e = t ∙ ap byNumber (n ∙ ap numbered (rw (toZ-ofZ fx, toZ-ofZ fy, toZ-ofZ fz) at e))

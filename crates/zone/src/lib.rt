@@ -1,9 +1,8 @@
 // The library's face to C and Rust: each call has the contract of the proved call behind it.
 
 ghost use mathlib.Core.Path.{_≡_};
-ghost use Rattle.zone.specs.Replies.{zoneCheckOf, zoneOutcome, zoneBuildOf, zoneOpenOf, zoneLookupOf};
-use sheet::Checked;
-use zonemap::Opened;
+ghost use Rattle.zone.specs.Replies.{byNumber, zoneCheckOf, zoneOutcome, zoneBuildOf, zoneOpenOf, zoneLookupOf};
+use replies::Reply;
 
 // A reply by document 01's code and number.
 #[repr(C)]
@@ -12,28 +11,30 @@ pub struct ZoneReply {
     pub number: u64,
 }
 
-// Tests a zone sheet, and gives the number of its records.
+fn by_number(reply: Reply) -> ZoneReply
+    ensures { λ r. ⌜ r ≡ byNumber reply ⌝ }
+{
+    match reply {
+        Reply::Done(n) => ZoneReply {
+            code: 0,
+            number: n as u64,
+        },
+        Reply::Refused(why) => ZoneReply {
+            code: why.code(),
+            number: why.number() as u64,
+        },
+    }
+}
+
+// Tests a zone sheet, and returns the number of its records.
 #[no_mangle]
 pub extern "C" fn zone_check(sheet: &[u8]) -> ZoneReply
     ensures { λ r. ⌜ r ≡ zoneCheckOf (now (sheet .entry)) ⌝ }
 {
-    match sheet::check(sheet) {
-        Checked::Good(n) => {
-            return ZoneReply {
-                code: 0,
-                number: n as u64,
-            };
-        }
-        Checked::Refused(why) => {
-            return ZoneReply {
-                code: why.code(),
-                number: why.number() as u64,
-            };
-        }
-    }
+    by_number(sheet::check(sheet))
 }
 
-// Builds the zone map of a sheet over a root at the start of `out`; where it refuses, `out` stays as it is.
+// Builds the zone map of a sheet over a root at the start of `out`, and returns its length. Where it refuses, `out` stays as it is.
 #[no_mangle]
 pub extern "C" fn zone_build(
     sheet: &[u8],
@@ -46,42 +47,21 @@ pub extern "C" fn zone_build(
 ) -> ZoneReply
     ensures { λ r. ⌜ zoneOutcome r (now (out .exit)) ≡ zoneBuildOf (now (sheet .entry)) (record { x = x; y = y; z = z; k = k; d = d }) (now (out .entry)) ⌝ }
 {
-    let reply = building::build(sheet, x, y, z, k, d, out);
-    ZoneReply {
-        code: reply.code(),
-        number: reply.number() as u64,
-    }
+    by_number(building::build(sheet, x, y, z, k, d, out))
 }
 
-// Opens a zone map, whatever sheet it is of, and gives the number of its leaves.
+// Opens a zone map, whatever sheet it is of, and returns the number of its leaves.
 #[no_mangle]
 pub extern "C" fn zone_open(map: &[u8]) -> ZoneReply
     ensures { λ r. ⌜ r ≡ zoneOpenOf (now (map .entry)) ⌝ }
 {
-    match zonemap::open(map) {
-        Opened::Good(n) => {
-            return ZoneReply {
-                code: 0,
-                number: n as u64,
-            };
-        }
-        Opened::Bad(at) => {
-            return ZoneReply {
-                code: 9,
-                number: at as u64,
-            };
-        }
-    }
+    by_number(zonemap::open(map))
 }
 
-// Looks a position up in a zone map. It only reads.
+// Looks a position up in a zone map. It only reads its inputs.
 #[no_mangle]
 pub extern "C" fn zone_lookup(sheet: &[u8], map: &[u8], x: i32, y: i32, z: i32) -> ZoneReply
     ensures { λ r. ⌜ r ≡ zoneLookupOf (now (sheet .entry)) (now (map .entry)) (record { x = x; y = y; z = z }) ⌝ }
 {
-    let reply = lookup::lookup(sheet, map, x, y, z);
-    ZoneReply {
-        code: reply.code(),
-        number: reply.number() as u64,
-    }
+    by_number(lookup::lookup(sheet, map, x, y, z).numbered())
 }

@@ -16,15 +16,15 @@ enum-known-n c = search needs
 
 sub-over-root : tie.Need-sub-over-root
 sub-over-root c =
-    omega (arith, good-some _ _ (sym (c .before .before .before .check .ensures) ∙ c .before .n .given .1))
+    omega (arith, good-some _ _ (c .before .before .before .check .ensures) _ (c .before .n .given .1))
 
 cast-over-root : tie.Need-cast-over-root
 cast-over-root c =
-    omega (arith, good-some _ _ (sym (c .before .before .before .check .ensures) ∙ c .before .n .given .1), good-count _ _ (sym (c .before .before .before .check .ensures) ∙ c .before .n .given .1), records-few (c .before .before .before .before .before .before .args .sheet .now))
+    omega (arith, good-some _ _ (c .before .before .before .check .ensures) _ (c .before .n .given .1), good-count _ _ (c .before .before .before .check .ensures) _ (c .before .n .given .1), records-few (c .before .before .before .before .before .before .args .sheet .now))
 
 over-root-requires : tie.Need-over-root-requires
 over-root-requires c κs =
-    omega (arith, good-some _ _ (sym (c .before .before .before .before .check .ensures) ∙ c .before .before .n .given .1), good-count _ _ (sym (c .before .before .before .before .check .ensures) ∙ c .before .before .n .given .1))
+    omega (arith, good-some _ _ (c .before .before .before .before .check .ensures) _ (c .before .before .n .given .1), good-count _ _ (c .before .before .before .before .check .ensures) _ (c .before .before .n .given .1))
 
 same-length : tie.Need-same-length
 same-length c = search needs

@@ -3,10 +3,6 @@ use Rattle.zonemap.proofs.Opens.{header-none, header-root, header-found
 use borrow.Author.Needs.{needs}
 use Rattle.zonemap.proofs.opening.find.Statement.{statement}
 use Rattle.zonemap.proofs.opening.find.Tie as tie
-use Rattle.zonemap.proofs.opening.find.Reads as reads
-use Rattle.zonemap.proofs.opening.find.Lts as lts
-use Rattle.zonemap.proofs.opening.find_leaf.Reads as find-leaf-reads
-use Rattle.zonemap.proofs.opening.read_header.Reads as read-header-reads
 
 read-header-requires : tie.Need-read-header-requires
 read-header-requires c κs = search needs

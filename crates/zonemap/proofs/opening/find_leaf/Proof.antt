@@ -3,10 +3,6 @@ use Rattle.zonemap.proofs.Opens.{root-within, root-deep, header-long, h
 use borrow.Author.Needs.{needs}
 use Rattle.zonemap.proofs.opening.find_leaf.Statement.{statement}
 use Rattle.zonemap.proofs.opening.find_leaf.Tie as tie
-use Rattle.zonemap.proofs.opening.find_leaf.Reads as reads
-use Rattle.zonemap.proofs.opening.find_leaf.Lts as lts
-use Rattle.zonemap.proofs.opening.place_or_first.Reads as place-or-first-reads
-use Rattle.zonemap.proofs.opening.scan.Reads as scan-reads
 
 place-or-first-requires : tie.Need-place-or-first-requires
 place-or-first-requires c κs = search (needs, root-within)

@@ -3,9 +3,6 @@ use Rattle.zonemap.proofs.Opens.{opened-long, opened, not-opened}
 use borrow.Author.Needs.{needs}
 use Rattle.zonemap.proofs.opening.open.Statement.{statement}
 use Rattle.zonemap.proofs.opening.open.Tie as tie
-use Rattle.zonemap.proofs.opening.open.Reads as reads
-use Rattle.zonemap.proofs.opening.open.Lts as lts
-use Rattle.zonemap.proofs.opening.find.Reads as find-reads
 
 slice-aggregate-find : tie.Need-slice-aggregate-find
 slice-aggregate-find c = search needs

@@ -3,8 +3,6 @@ use Rattle.zonemap.proofs.Meeting.{count-is}
 use borrow.Author.Needs.{needs}
 use Rattle.zonemap.proofs.walking.leaf_count.Statement.{statement}
 use Rattle.zonemap.proofs.walking.leaf_count.Tie as tie
-use Rattle.zonemap.proofs.walking.leaf_count.Reads as reads
-use Rattle.zonemap.proofs.walking.leaf_count.Lts as lts
 
 sub-result : tie.Need-sub-result
 sub-result c = search needs

@@ -4,11 +4,6 @@ use native.Mathlib.Omega.{arith}
 use borrow.Author.Needs.{needs}
 use Rattle.zonemap.proofs.walking.meet.Statement.{statement}
 use Rattle.zonemap.proofs.walking.meet.Tie as tie
-use Rattle.zonemap.proofs.walking.meet.Reads as reads
-use Rattle.zonemap.proofs.walking.meet.Lts as lts
-use Rattle.cube.proofs.Root.cube_at.Reads as cube-at-reads
-use Rattle.zonemap.proofs.opening.eight_to.Reads as eight-to-reads
-use Rattle.zonemap.proofs.opening.leaf_at.Reads as leaf-at-reads
 
 mul-leaf-at : tie.Need-mul-leaf-at
 mul-leaf-at c = record { fits = omega (arith, met-room _ (c .before .pre .0) _ (c .before .pre .1 .0) _ (c .before .pre .1 .1 .0)) }

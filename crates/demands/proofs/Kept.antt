@@ -5,7 +5,8 @@ use Rattle.demands.proofs.Sheets.{checks, sheet-rows}
 use Rattle.demands.proofs.Opening.{opens, faults, open-row}
 use Rattle.demands.proofs.Outcomes.{one-reply, one-outcome, builds, build-refused, unchanged, build-rows}
 use Rattle.demands.proofs.Maps.{can-look-up, the-map}
-use Rattle.demands.proofs.Soundness.{agrees, no-touch}
+use Rattle.demands.proofs.Truthful.{no-touch}
+use Rattle.demands.proofs.Soundness.{truthful}
 use Rattle.demands.proofs.Tiling.{tiling, covering}
 use Rattle.demands.proofs.Lookups.{looks-up, lookup-refused, lookup-rows, by-the-leaf, truth}
 use Rattle.demands.proofs.Rows.{rows}
@@ -38,7 +39,8 @@ demand-2 = record { the-map = the-map; can-look-up = can-look-up; by-the-leaf = 
 
 demand-3 : Demand3
 demand-3 = record {
-  agrees = agrees;
+  truthful = truthful;
+  no-touch-built = λ sheet one other b c. no-touch sheet one other (truthful sheet one b) (truthful sheet other c);
   no-touch = no-touch;
   tiling = tiling;
   covering = covering;

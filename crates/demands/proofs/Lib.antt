@@ -3,6 +3,7 @@ pub mod Opening
 pub mod Outcomes
 pub mod Maps
 pub mod AtPoint
+pub mod Truthful
 pub mod Soundness
 pub mod Tiling
 pub mod Lookups

@@ -1,5 +1,5 @@
--- What zone_lookup answers: code 0 exactly where no row of the table refuses; the leaf that holds the position decides; and in a built map what it answers is the
--- truth of the solid there.
+-- What zone_lookup returns: code 0 exactly where no row of the table refuses; the leaf that holds the position decides; and in a truthful map inside or outside is
+-- the truth of the solid there.
 use mathlib.Core.Path.{_≡_, refl, sym, ap, _∙_}
 use mathlib.Core.Bool.{Bool, true, false, cond, not}
 use mathlib.Core.List.{List, []}
@@ -34,13 +34,12 @@ use Rattle.lookup.specs.declared.Reply.the-variants.{Map, OverRoot}
 use Rattle.lookup.specs.Lookup.{answerNumber, answerOf, sideOf, leafHolding, mapReply, onSheet, lookupOf, codeOf}
 use Rattle.zone.specs.declared.ZoneReply.{ZoneReply}
 use Rattle.zone.specs.Replies.{reply, checkedByNumber, zoneCheckOf, lookupByNumber, zoneLookupOf}
-use Rattle.demands.specs.Terms.{DoneWhere, Built, Touches, GoodSheet, GoodLeaf, CanLookUp}
+use Rattle.demands.specs.Terms.{DoneWhere, Touches, GoodSheet, GoodLeaf, CanLookUp, Agrees, Truthful}
 use Rattle.demands.specs.Table.{LookupRows}
-use Rattle.demands.specs.Demands.{ByTheLeaf, Agrees}
+use Rattle.demands.specs.Demands.{ByTheLeaf}
 use Rattle.demands.proofs.Sheets.{sheet-code, check-good, good-check}
 use Rattle.demands.proofs.Opening.{opens-told, opens-fault}
 use Rattle.demands.proofs.AtPoint.{by-its-face}
-use Rattle.demands.proofs.Soundness.{agrees}
 use Rattle.demands.proofs.Tiling.{found}
 
 -- ---- a sheet that is refused
@@ -153,7 +152,7 @@ no-side : (b : Bool) → reply 0 2 ≡ reply 0 (cond b 1 0) → ⊥
 no-side true e = let z : _≡_ {A = ℕ} 2 1 = ap (λ (r : ZoneReply). r .number) e in omega arith
 no-side false e = let z : _≡_ {A = ℕ} 2 0 = ap (λ (r : ZoneReply). r .number) e in omega arith
 
--- a leaf that agrees with the point answers the truth or leaves it open
+-- a leaf that agrees with the sheet at the position decides by the truth, or leaves it open
 module _ (sheet map : List ℕ) (p : Point) (t : ByTheLeaf sheet map p) (h : Agrees (recordsOf sheet) (nthLeaf map (t .number)) (whole p)) (class : nthLeaf map (t .number) .class ≤ 4) (side : Bool) (e : zoneLookupOf sheet map p ≡ reply 0 (cond side 1 0)) where
   abbrev l : Leaf
   l = nthLeaf map (t .number)
@@ -170,11 +169,10 @@ module _ (sheet map : List ℕ) (p : Point) (t : ByTheLeaf sheet map p) (h : Agr
       (λ d. let k = eqb-true (l .class) 3 d in h .complement k .1 ∙ same-side _ side (sym (t .complement k) ∙ e))
       (λ d. absurd (no-side side (sym (t .gray (omega (arith, class, eqb-false (l .class) 0 a, eqb-false (l .class) 1 b, eqb-false (l .class) 2 c, eqb-false (l .class) 3 d))) ∙ e))))))
 
-module _ (sheet map : List ℕ) (b : Built sheet map) (p : Point) where
-  -- what a lookup in a built map answers is the truth
+-- so a lookup in a truthful map tells the truth
+module _ (sheet map : List ℕ) (truthful : Truthful sheet map) (p : Point) where
   pub truth : (side : Bool) → zoneLookupOf sheet map p ≡ reply 0 (cond side 1 0) → inSolid (recordsOf sheet) (whole p) ≡ side
   truth side e =
-      let c = looks-up-only sheet map p (ap (λ (r : ZoneReply). r .code) e) in
-      let f = by-the-leaf sheet map p c in
-      let t : Touches map (whole p) (f .number) = record { among = f .holds .among; closed = held-closed (nthCube map (f .number)) p (f .holds .held) } in
-      leaf-true sheet map p f (agrees sheet map b (whole p) (f .number) t) (c .opens .good (f .number) (f .holds .among) .class) side e
+      let by = by-the-leaf sheet map p (looks-up-only sheet map p (ap (λ (r : ZoneReply). r .code) e)) in
+      let touches : Touches map (whole p) (by .number) = record { among = by .holds .among; closed = held-closed (nthCube map (by .number)) p (by .holds .held) } in
+      leaf-true sheet map p by (truthful .agrees (whole p) (by .number) touches) (truthful .opens .good (by .number) (by .holds .among) .class) side e

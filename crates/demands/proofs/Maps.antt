@@ -48,7 +48,7 @@ module _ (sheet map : List ℕ) (b : Built sheet map) where
   -- the sheet is good, and its map stands at the start of the buffer
   told : ((n : ℕ) × (checkOf sheet ≡ Good n)) × Made (b .size) (b .before) (b .after) rs root
   told =
-      let e = b .answered in
+      let e = b .returned in
       let t = made sheet root (b .before) (sym (ap (λ (o : ZoneOutcome). o .reply .code) e)) in
       (t .0, rw (← ap (λ (o : ZoneOutcome). o .reply .number) e, ← ap (λ (o : ZoneOutcome). o .buffer) e) at (t .1))
 

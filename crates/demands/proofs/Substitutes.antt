@@ -15,7 +15,7 @@ use Rattle.zonemap.specs.StepRoom.{stepRoot, stepMap}
 use Rattle.building.proofs.Rows.{build-1}
 use Rattle.zone.specs.declared.ZoneReply.{ZoneReply}
 use Rattle.zone.specs.Replies.{reply, ZoneOutcome, zoneOutcome, zoneBuildOf}
-use Rattle.demands.specs.Demands.{Agrees}
+use Rattle.demands.specs.Terms.{Agrees}
 use Rattle.demands.proofs.Rows.{stores, refuses}
 
 -- a buffer of 43 bytes holds the map, one of 42 does not

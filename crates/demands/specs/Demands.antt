@@ -1,54 +1,51 @@
 -- The customer's three demands, stated of the calls that ship, by document 01's codes and numbers: zoneCheckOf, zoneBuildOf, zoneOpenOf and zoneLookupOf are
 -- what the contracts of zone_check, zone_build, zone_open and zone_lookup say (proofs/Contracts). proofs/Kept has the proof of all.
 use mathlib.Core.Path.{_≡_}
-use mathlib.Core.Bool.{Bool, true, false, cond, not}
+use mathlib.Core.Bool.{Bool, cond, not}
 use mathlib.Core.List.{List}
 use Prim.Native.Nat.{ℕ, _+_, _*_, _<_}
 use lib.ListN.{length, drop}
-use Rattle.sheet.specs.declared.Record.{Record}
 use Rattle.sheet.specs.Records.{recordsOf}
-use Rattle.records.specs.Faces.{hasFace}
 use Rattle.cube.specs.declared.Root.{Root}
 use Rattle.cube.specs.declared.Point.{Point}
 use Rattle.cube.specs.Points.{InRoot}
 use Rattle.meaning.specs.Fractions.{FractionalPoint, whole, InClosedRoot}
 use Rattle.meaning.specs.Truth.{holdsAt, inSolid}
-use Rattle.zonemap.specs.declared.Leaf.{Leaf}
 use Rattle.zonemap.specs.Opening.{rootOf, leavesOf, anyFace}
 use Rattle.zonemap.specs.Leaves.{nthLeaf, nthCube}
 use Rattle.tree.specs.Solid.{leafOf}
 use Rattle.building.specs.Build.{builtMap}
 use Rattle.zone.specs.declared.ZoneReply.{ZoneReply}
 use Rattle.zone.specs.Replies.{reply, zoneCheckOf, ZoneOutcome, zoneOutcome, zoneBuildOf, zoneOpenOf, zoneLookupOf}
-use Rattle.demands.specs.Terms.{ExactlyOne, DoneWhere, Built, Holds, Touches, GoodSheet, Opens, CanBuild, CanLookUp}
+use Rattle.demands.specs.Terms.{ExactlyOne, DoneWhere, Built, Holds, Touches, GoodSheet, Opens, CanBuild, CanLookUp, Truthful, NoTouch}
 use Rattle.demands.specs.Table.{Table}
 use Rattle.demands.specs.Rows.{AllHold, elevenRows}
 
 -- 1. Every sheet, root cube, depth, map and position gets an answer. A bad one gets the refusal in document 01, in its stated order, without any check by the
 -- caller, and the map buffer is then unchanged.
 pub record Demand1 : Type 0 where
-  -- a contract is one equation with a definition of the inputs: it lets in one reply, of a call that writes one reply with every byte, and no second
+  -- a contract is one equation with what a definition gives for the inputs: one reply meets it, or one reply with every byte of the buffer, and no other
   pub one-reply : (told : ZoneReply) → ExactlyOne (λ (r : ZoneReply). r ≡ told)
   pub one-outcome : (told : ZoneOutcome) → ExactlyOne (λ (o : ZoneReply × List ℕ). zoneOutcome (o .0) (o .1) ≡ told)
-  -- code 0 exactly where no row of the table refuses, with the number of records, the map's length, the number of leaves, or an answer (demand 2)
+  -- code 0 exactly where no row of the table refuses, with the number of records, the map's length, the number of leaves, or what the leaf says (demand 2)
   pub checks : (sheet : List ℕ) → DoneWhere (GoodSheet sheet) (zoneCheckOf sheet) (length (recordsOf sheet))
   pub builds : (sheet : List ℕ) (root : Root) (before : List ℕ) → DoneWhere (CanBuild sheet root before) (zoneBuildOf sheet root before .reply) (length (builtMap (recordsOf sheet) root))
   pub opens : (map : List ℕ) → DoneWhere (Opens anyFace map) (zoneOpenOf map) (length (leavesOf map))
   pub looks-up : (sheet map : List ℕ) (p : Point) → DoneWhere (CanLookUp sheet map p) (zoneLookupOf sheet map p) (zoneLookupOf sheet map p .number)
   -- each refusal, by its code and its number, in the order of the table
   pub refuses : Table
-  -- a sheet that zone_check refuses, each call refuses alike
+  -- a sheet that zone_check refuses is refused by every call with the same code and number
   pub build-refused : (sheet : List ℕ) → (zoneCheckOf sheet .code ≡ 0 → ⊥) → (root : Root) (before : List ℕ) → zoneBuildOf sheet root before ≡ zoneOutcome (zoneCheckOf sheet) before
   pub lookup-refused : (sheet : List ℕ) → (zoneCheckOf sheet .code ≡ 0 → ⊥) → (map : List ℕ) (p : Point) → zoneLookupOf sheet map p ≡ zoneCheckOf sheet
   -- a refusal leaves the buffer as it was
   pub unchanged : (sheet : List ℕ) (root : Root) (before : List ℕ) → (zoneBuildOf sheet root before .reply .code ≡ 0 → ⊥) → zoneBuildOf sheet root before .buffer ≡ before
 
--- 2. The map is exactly the one named by the interval rules: same cubes, order, colours and length.
+-- 2. The map is exactly the one named by the interval rules in document 01: same cubes, order, colours and length.
 pub record TheMap (sheet map : List ℕ) (built : Built sheet map) : Type 0 where
   pub is : map ≡ builtMap (recordsOf sheet) (built .root)
   pub size : built .size ≡ 19 + 3 * length (leavesOf map)
   pub later-stay : drop (built .size) (built .after) ≡ drop (built .size) (built .before)
-  -- it opens, with the root that was asked for, and each leaf is that of the cube at its own place
+  -- it opens with the root that was asked for, and each leaf is that of the cube at its own place
   pub opens : zoneOpenOf map ≡ reply 0 (length (leavesOf map))
   pub root : rootOf map ≡ built .root
   pub leaf : (i : ℕ) → i < length (leavesOf map) → nthLeaf map i ≡ leafOf (recordsOf sheet) (nthCube map i)
@@ -69,24 +66,20 @@ pub record Demand2 : Type 0 where
   pub can-look-up : (sheet map : List ℕ) → Built sheet map → (p : Point) → InRoot (rootOf map) p → CanLookUp sheet map p
   pub by-the-leaf : (sheet map : List ℕ) (p : Point) → CanLookUp sheet map p → ByTheLeaf sheet map p
 
--- 3. If a point is in a white leaf's closed cube it is outside the solid; in a black one, inside; in a terminal one, it agrees with the named face or with its
--- complement, as marked.
-pub record Agrees (rs : List Record) (leaf : Leaf) (p : FractionalPoint) : Type 0 where
-  pub white : leaf .class ≡ 0 → inSolid rs p ≡ false
-  pub black : leaf .class ≡ 1 → inSolid rs p ≡ true
-  pub terminal : leaf .class ≡ 2 → (hasFace rs (leaf .face) ≡ true) × (inSolid rs p ≡ holdsAt rs (leaf .face) p)
-  pub complement : leaf .class ≡ 3 → (hasFace rs (leaf .face) ≡ true) × (inSolid rs p ≡ not (holdsAt rs (leaf .face) p))
-
+-- 3. Take any map built from a sheet, and any point of its closed root cube, its coordinates being fractions with one positive denominator. If it is in a white
+-- leaf's closed cube it is outside the solid; in a black one, inside; in a terminal one, it agrees with the named face or with its complement, as marked.
 pub record Demand3 : Type 0 where
-  pub agrees : (sheet map : List ℕ) → Built sheet map → (p : FractionalPoint) (i : ℕ) → Touches map p i → Agrees (recordsOf sheet) (nthLeaf map i) p
-  -- so no white leaf shares even a corner with a black leaf, in one map or in two maps built from that sheet with other roots or depths
-  pub no-touch : (sheet one other : List ℕ) → Built sheet one → Built sheet other → (p : FractionalPoint) (i j : ℕ)
-      → nthLeaf one i .class ≡ 0 → nthLeaf other j .class ≡ 1 → Touches one p i → Touches other p j → ⊥
-  -- in every map that opens, each whole point of the root is in one leaf, and each point of the closed root in the closed cube of some leaf
+  -- a map that agrees with its sheet at all these points is truthful (specs/Terms)
+  pub truthful : (sheet map : List ℕ) → Built sheet map → Truthful sheet map
+  -- So no white leaf shares even a corner with a black leaf, in one map or in two maps built from that sheet with other roots or depths.
+  pub no-touch-built : (sheet one other : List ℕ) → Built sheet one → Built sheet other → NoTouch one other
+  -- the same holds of any two truthful maps of one sheet, however they were made
+  pub no-touch : (sheet one other : List ℕ) → Truthful sheet one → Truthful sheet other → NoTouch one other
+  -- in every map that opens, each whole point of the root is in one leaf, and each point of the closed root is in the closed cube of some leaf
   pub tiling : (map : List ℕ) → zoneOpenOf map .code ≡ 0 → (p : Point) → InRoot (rootOf map) p → ExactlyOne (Holds map p)
   pub covering : (map : List ℕ) → zoneOpenOf map .code ≡ 0 → (p : FractionalPoint) → InClosedRoot (rootOf map) p → (i : ℕ) × Touches map p i
-  -- where a lookup in a built map answers 1, inside, or 0, outside, that is the truth of the solid there
-  pub truth : (sheet map : List ℕ) → Built sheet map → (p : Point) (inside : Bool) → zoneLookupOf sheet map p ≡ reply 0 (cond inside 1 0) → inSolid (recordsOf sheet) (whole p) ≡ inside
+  -- where a lookup in a truthful map returns 1, inside, or 0, outside, that is the truth of the solid at the position
+  pub truth : (sheet map : List ℕ) → Truthful sheet map → (p : Point) (inside : Bool) → zoneLookupOf sheet map p ≡ reply 0 (cond inside 1 0) → inSolid (recordsOf sheet) (whole p) ≡ inside
 
 -- the three demands, and the eleven rows marked P
 pub record Demands : Type 0 where

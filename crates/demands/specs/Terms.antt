@@ -1,7 +1,7 @@
--- What the demands speak of, in document 01's words and numbers: a built map, its leaves as its own bytes place them, and the inputs that no row of the
--- table of replies refuses.
+-- What the demands speak of, in document 01's words and numbers: a built map, its leaves as its own bytes place them, the inputs that no row of the table of
+-- replies refuses, and a map that is truthful to a sheet.
 use mathlib.Core.Path.{_≡_}
-use mathlib.Core.Bool.{Bool, true}
+use mathlib.Core.Bool.{Bool, true, false, not}
 use mathlib.Core.List.{List, []}
 use Prim.Native.Nat.{ℕ, _+_, _-_, _*_, _%_, _^_, _≤_, _<_}
 use lib.ListN.{length, getD, take}
@@ -20,7 +20,9 @@ use Rattle.cube.specs.Limits.{WithinLimits}
 use Rattle.cube.specs.Cubes.{rootCube}
 use Rattle.cube.specs.Points.{holdsPoint, InRoot}
 use Rattle.meaning.specs.Fractions.{FractionalPoint, InClosed}
+use Rattle.meaning.specs.Truth.{holdsAt, inSolid}
 use Rattle.colour.specs.Entries.{blank, entries}
+use Rattle.zonemap.specs.declared.Leaf.{Leaf}
 use Rattle.zonemap.specs.Opening.{rootOf, leavesOf}
 use Rattle.zonemap.specs.Leaves.{nthLeaf, nthPlace, nthCube}
 use Rattle.tree.specs.Solid.{pastInTree}
@@ -28,7 +30,7 @@ use Rattle.building.specs.Build.{builtMap}
 use Rattle.zone.specs.declared.ZoneReply.{ZoneReply}
 use Rattle.zone.specs.Replies.{reply, zoneOutcome, zoneBuildOf}
 
--- one fits, and no second one does
+-- one fits, and no other does
 pub record ExactlyOne {A : Type 0} (Fits : A → Type 0) : Type 0 where
   pub one : A
   pub fits : Fits one
@@ -39,13 +41,13 @@ pub record DoneWhere (Fine : Type 0) (r : ZoneReply) (number : ℕ) : Type 0 whe
   pub done : Fine → r ≡ reply 0 number
   pub only : r .code ≡ 0 → Fine
 
--- a map built from a sheet: zone_build gave code 0 with a size, over some root and into some buffer, and the map is that many bytes of the buffer afterwards
+-- a map built from a sheet: for some root and some buffer zone_build returned code 0 with a size, and the map is the first so many bytes of the buffer afterwards
 pub record Built (sheet map : List ℕ) : Type 0 where
   pub root : Root
   pub before : List ℕ
   pub after : List ℕ
   pub size : ℕ
-  pub answered : zoneOutcome (reply 0 size) after ≡ zoneBuildOf sheet root before
+  pub returned : zoneOutcome (reply 0 size) after ≡ zoneBuildOf sheet root before
   pub bytes : map ≡ take size after
 
 -- ---- leaf i of a map
@@ -74,7 +76,7 @@ pub record GoodSheet (sheet : List ℕ) : Type 0 where
       → Operand (recordsOf sheet) i (firstOf (getD (recordsOf sheet) i X)) × Operand (recordsOf sheet) i (secondOf (getD (recordsOf sheet) i X))
   pub solid : lastSort (recordsOf sheet) ≡ Logical
 
--- row 9, of leaf i: level at most d, class at most 4, gray only at level d, face 0 unless class 2 or 3, and then one that may be named; the place is a
+-- row 9, of leaf i: level at most d, class at most 4, gray only at level d, face 0 unless class 2 or 3, and then a face that may be named; the place is a
 -- multiple of the leaf's own 8^(d-level), and the leaf ends at or before 8^d
 pub record GoodLeaf (named : ℕ → Bool) (map : List ℕ) (i : ℕ) : Type 0 where
   pub level : nthLeaf map i .level ≤ rootOf map .d
@@ -112,3 +114,22 @@ pub record CanLookUp (sheet map : List ℕ) (p : Point) : Type 0 where
   pub opens : Opens (hasFace (recordsOf sheet)) map
   pub bounded : KeepsLimit (recordsOf sheet) (rootCube (rootOf map))
   pub inside : InRoot (rootOf map) p
+
+-- ---- a map that is truthful to a sheet
+-- If it is in a white leaf's closed cube it is outside the solid; in a black one, inside; in a terminal one, it agrees with the named face or with its
+-- complement, as marked. (What is named must be a face: the number of the solid's own record would agree with every point.)
+pub record Agrees (rs : List Record) (leaf : Leaf) (p : FractionalPoint) : Type 0 where
+  pub white : leaf .class ≡ 0 → inSolid rs p ≡ false
+  pub black : leaf .class ≡ 1 → inSolid rs p ≡ true
+  pub terminal : leaf .class ≡ 2 → (hasFace rs (leaf .face) ≡ true) × (inSolid rs p ≡ holdsAt rs (leaf .face) p)
+  pub complement : leaf .class ≡ 3 → (hasFace rs (leaf .face) ≡ true) × (inSolid rs p ≡ not (holdsAt rs (leaf .face) p))
+
+-- Every leaf, as the map's own bytes place it, agrees with the sheet at every fractional point of its closed cube. The map opens with the faces of the sheet, so
+-- that its leaves cover its root: of bytes that hold no leaf, `agrees` alone would say nothing.
+pub record Truthful (sheet map : List ℕ) : Type 0 where
+  pub opens : Opens (hasFace (recordsOf sheet)) map
+  pub agrees : (p : FractionalPoint) (i : ℕ) → Touches map p i → Agrees (recordsOf sheet) (nthLeaf map i) p
+
+-- no white leaf of one map shares even a corner with a black leaf of the other
+abbrev pub NoTouch : List ℕ → List ℕ → Type 0
+NoTouch one other = (p : FractionalPoint) (i j : ℕ) → nthLeaf one i .class ≡ 0 → nthLeaf other j .class ≡ 1 → Touches one p i → Touches other p j → ⊥

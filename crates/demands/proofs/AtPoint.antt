@@ -48,7 +48,7 @@ face-is (Both a b) e = absurd (true≢false (sym e))
 face-is (Either a b) e = absurd (true≢false (sym e))
 face-is (Complement a) e = absurd (true≢false (sym e))
 
--- a number that is a face's is that of a record
+-- the number of a face is that of a record
 face-among : (rs : List Record) (f : ℕ) → hasFace rs f ≡ true → f < length rs
 unfolding hasFace
 face-among [] f e = absurd (true≢false (sym e))
@@ -60,7 +60,7 @@ point-state : (v : ℤ) (f : ℕ) → faceState (only v) f ≡ cond (leZ v (pos 
 unfolding faceState
 point-state v f = by-test (leZ v (pos 0)) (λ t. rw t) (λ t. rw (t, T-true (ltZ (pos 0) v) (leZ-above v (pos 0) t .lt)))
 
--- so that it says whether the face holds
+-- so the state says whether the face holds
 told : (face : ℕ → Bool) (v : ℤ) (f : ℕ) (b : Bool) → Sound face (faceState (only v) f) b → isIn (faceState (only v) f) ≡ b
 unfolding Sound
 told face v f b h =
@@ -68,7 +68,7 @@ told face v f b h =
     by-test (leZ v (pos 0)) (λ t. rw (e, t) (sym (rw (e, t) at h))) (λ t. rw (e, t) (sym (rw (e, t) at h)))
 
 module _ (rs : List Record) (f : ℕ) (p : Point) (e : hasFace rs f ≡ true) where
-  -- over the point, the state of the face is that of one number
+  -- at the point, the state of the face is that of one number
   state-is : (v : ℤ) × (getD (entries (pointCube p) rs) f blank .state ≡ faceState (only v) f)
   unfolding entryOf stateOf hasFace
   state-is =
@@ -87,7 +87,7 @@ module _ (rs : List Record) (f : ℕ) (p : Point) (e : hasFace rs f ≡ true) wh
             ∙ ap (faceState (only (v .0))) (length-along (entryOf q) before ∙ n),
       )
 
-  -- working a face out at a whole point is asking whether it holds there
+  -- what lookup computes for a face at a whole point is whether the face holds there
   pub by-its-face : faceHolds rs f p ≡ holdsAt rs f (whole p)
   unfolding faceHolds
   by-its-face =

@@ -51,7 +51,7 @@ pub lookup-refused : (sheet : List ℕ) → (zoneCheckOf sheet .code ≡ 0 → �
 unfolding zoneLookupOf lookupOf zoneCheckOf
 lookup-refused sheet h map p = bad-sheet (checkOf sheet) h (recordsOf sheet) map p
 
--- ---- done exactly where all is fine
+-- ---- code 0 exactly where no row refuses
 abbrev Answers : Reply → Type 0
 Answers r = codeOf r ≡ 0
 

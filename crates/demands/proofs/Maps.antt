@@ -1,4 +1,4 @@
--- What a map built from a sheet is: the map that the rules name, which opens, each leaf of it being that of the cube at its own place.
+-- What a map built from a sheet is: the map that the rules name. It opens, and each of its leaves is that of the cube at its own place.
 use mathlib.Core.Path.{_≡_, sym, ap, _∙_}
 use mathlib.Core.Bool.{true}
 use mathlib.Core.List.{List, [], _++_}
@@ -45,7 +45,7 @@ module _ (sheet map : List ℕ) (b : Built sheet map) where
   abbrev root : Root
   root = b .root
 
-  -- the sheet is good, and its map stands at the start of the buffer
+  -- the sheet is good, and the buffer begins with its map
   told : ((n : ℕ) × (checkOf sheet ≡ Good n)) × Made (b .size) (b .before) (b .after) rs root
   told =
       let e = b .returned in
@@ -68,14 +68,14 @@ module _ (sheet map : List ℕ) (b : Built sheet map) where
   leaves-are : leavesOf map ≡ all rs root within
   leaves-are = ap leavesOf is ∙ built-leaves rs root within
 
-  -- it opens, whichever faces may be named as long as those of the sheet may
+  -- it opens with the faces of the sheet
   opens : faultOf (hasFace rs) map ≡ []
   opens = ap (faultOf (hasFace rs)) is ∙ built-opens rs root within
 
   pub opens-with : Opens (hasFace rs) map
   opens-with = opens-told (hasFace rs) map opens
 
-  -- looking up in it is refused for a position that is not in the root, and for nothing else
+  -- a lookup in it is refused for a position that is not in the root, and for nothing else
   pub can-look-up : (p : Point) → InRoot (rootOf map) p → CanLookUp sheet map p
   can-look-up p inside = record {
     good = check-good sheet (told .0 .0) (told .0 .1);

@@ -1,21 +1,28 @@
--- Wrong programs that the contract of `zone_build` shuts out, each on the step room at depth 1: what they would answer is not what the contract says. And why demand
--- 3 needs demand 2 beside it.
+-- Wrong programs that the contract of `zone_build` shuts out, each on the step room at depth 1: what they would return is not what the contract says. And why demand 3
+-- needs demand 2 beside it, and a truthful map has to open.
 use mathlib.Core.Path.{_≡_, refl, sym, ap, _∙_}
 use mathlib.Core.List.{List, [], _∷_, _++_}
-use Prim.Native.Nat.{ℕ}
+use Prim.Native.Nat.{ℕ, _^_, _<_}
+use native.Mathlib.Nat.{one-le-pow}
 use native.Mathlib.Omega.{arith}
-use lib.ListN.{getD, replicate}
+use lib.ListN.{length, getD, replicate}
 use Rattle.bigendian.specs.Numbers.{bytesOf, unsigned32}
 use Rattle.sheet.specs.declared.Record.{Record}
+use Rattle.sheet.specs.Records.{recordsOf}
 use Rattle.sheet.specs.StepRoom.{stepSheet}
-use Rattle.meaning.specs.Fractions.{FractionalPoint}
+use Rattle.records.specs.Faces.{hasFace}
+use Rattle.meaning.specs.Fractions.{FractionalPoint, InClosedRoot}
 use Rattle.zonemap.specs.declared.Leaf.{Leaf}
 use Rattle.zonemap.specs.Map.{leafBytes, leavesBytes, cornerBytes, headerOf, mapOf}
+use Rattle.zonemap.specs.Opening.{rootOf, leavesOf}
+use Rattle.zonemap.specs.Leaves.{placeAt, nthLeaf}
 use Rattle.zonemap.specs.StepRoom.{stepRoot, stepMap}
 use Rattle.building.proofs.Rows.{build-1}
 use Rattle.zone.specs.declared.ZoneReply.{ZoneReply}
 use Rattle.zone.specs.Replies.{reply, ZoneOutcome, zoneOutcome, zoneBuildOf}
-use Rattle.demands.specs.Terms.{Agrees}
+use Rattle.demands.specs.Terms.{Touches, Opens, Agrees, Truthful}
+use Rattle.demands.proofs.Truthful.{truthful-opens}
+use Rattle.demands.proofs.Tiling.{covering}
 use Rattle.demands.proofs.Rows.{stores, refuses}
 
 -- a buffer of 43 bytes holds the map, one of 42 does not
@@ -44,7 +51,7 @@ module _ (r : ZoneReply) (out : List ℕ) (e : zoneOutcome r out ≡ zoneBuildOf
   pub not-unwritten : out ≡ room → ⊥
   not-unwritten h = let z : _≡_ {A = ℕ} 0 39 = ap (λ (b : List ℕ). getD b 3 0) (sym h ∙ no-other-bytes) in absurd (omega arith)
 
-  -- one that answers one gray leaf for all sheets
+  -- one that returns one gray leaf for all sheets
   pub not-one-gray-leaf : (rest : List ℕ) → out ≡ mapOf (stepRoot 1) (record { level = 0; class = 4; face = 0 } ∷ []) ++ rest → ⊥
   unfolding mapOf headerOf cornerBytes bytesOf unsigned32 leavesBytes leafBytes
   not-one-gray-leaf rest h = let z : _≡_ {A = ℕ} 18 39 = ap (λ (b : List ℕ). getD b 3 0) (sym h ∙ no-other-bytes) in absurd (omega arith)
@@ -67,7 +74,7 @@ module _ (r : ZoneReply) (out : List ℕ) (e : zoneOutcome r out ≡ zoneBuildOf
   not-written = ap (λ (o : ZoneOutcome). o .buffer) told-short
 
 -- ---- demand 3 alone
--- A gray leaf agrees with every point, so that a program which calls cubes gray keeps demand 3. Only the equation of the map shuts it out, as above.
+-- A gray leaf agrees with every sheet at every point, so a program that calls cubes gray keeps demand 3. Only the equation of the map shuts it out, as above.
 gray-agrees : (rs : List Record) (leaf : Leaf) (p : FractionalPoint) → leaf .class ≡ 4 → Agrees rs leaf p
 gray-agrees rs leaf p e = record {
   white = λ h. absurd (omega arith);
@@ -75,3 +82,21 @@ gray-agrees rs leaf p e = record {
   terminal = λ h. absurd (omega arith);
   complement = λ h. absurd (omega arith);
 }
+
+-- a map of gray leaves alone is truthful to every sheet
+pub gray-truthful : (sheet map : List ℕ) → Opens (hasFace (recordsOf sheet)) map → ((i : ℕ) → i < length (leavesOf map) → nthLeaf map i .class ≡ 4) → Truthful sheet map
+gray-truthful sheet map opens gray = record { opens = opens; agrees = λ p i t. gray-agrees (recordsOf sheet) (nthLeaf map i) p (gray i (t .among)) }
+
+-- ---- why a truthful map has to open
+-- Where there are no leaves, all of them agree with every sheet; such bytes do not open.
+module _ (sheet map : List ℕ) (none : length (leavesOf map) ≡ 0) where
+  pub no-leaf-agrees : (p : FractionalPoint) (i : ℕ) → Touches map p i → Agrees (recordsOf sheet) (nthLeaf map i) p
+  no-leaf-agrees p i t = absurd (omega (arith, none, t .among))
+
+  pub not-truthful : Truthful sheet map → ⊥
+  unfolding placeAt
+  not-truthful t = let e : 0 ≡ 8 ^ rootOf map .d = rw none at (t .opens .whole) in omega (arith, one-le-pow (rootOf map .d) 8 (omega arith), e)
+
+-- each point of a truthful map's closed root is in the closed cube of some leaf, which agrees with the sheet there
+pub everywhere : (sheet map : List ℕ) → Truthful sheet map → (p : FractionalPoint) → InClosedRoot (rootOf map) p → (i : ℕ) × (Touches map p i × Agrees (recordsOf sheet) (nthLeaf map i) p)
+everywhere sheet map t p inside = let c = covering map (truthful-opens sheet map t) p inside in (c .0, (c .1, t .agrees p (c .0) (c .1)))

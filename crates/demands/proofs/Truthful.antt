@@ -1,6 +1,6 @@
--- Demand 3, however a map was made: a leaf that says of its cube what a sound state says agrees with the sheet at every point of the closed cube, so a map that opens
--- and has such leaves only is truthful; and no white leaf of a truthful map touches a black one of another.
-use mathlib.Core.Path.{_≡_, sym, _∙_}
+-- Demand 3, however a map was made: a leaf that says of its cube what a sound state says agrees with the sheet at every point of the closed cube. So a map that opens
+-- and has only such leaves is truthful. In two truthful maps of one sheet no white leaf touches a black one.
+use mathlib.Core.Path.{_≡_, sym, ap, _∙_}
 use mathlib.Core.Bool.{true, true≢false}
 use mathlib.Core.List.{List}
 use Prim.Native.Nat.{ℕ, _<_}
@@ -19,16 +19,19 @@ use Rattle.soundness.specs.Claims.{Sound}
 use Rattle.zonemap.specs.declared.Leaf.{Leaf}
 use Rattle.zonemap.specs.Opening.{leavesOf}
 use Rattle.zonemap.specs.Leaves.{nthLeaf, nthCube}
+use Rattle.zone.specs.declared.ZoneReply.{ZoneReply}
+use Rattle.zone.specs.Replies.{zoneOpenOf}
 use Rattle.demands.specs.Terms.{Opens, Agrees, Truthful, NoTouch}
+use Rattle.demands.proofs.Opening.{any-opens, opens}
 
--- a leaf has the class and the face of a state that is sound at every point of a closed cube
+-- the leaf has the class and the face of a state that is sound at every point of the closed cube
 pub record Says (rs : List Record) (q : Cube) (l : Leaf) : Type 0 where
   pub state : State
   pub class : l .class ≡ classOf state
   pub face : l .face ≡ faceOf state
   pub sound : (p : FractionalPoint) → InClosed q p → Sound (λ f. holdsAt rs f p) state (inSolid rs p)
 
--- then it agrees with the sheet at each of these points, if what it names is a face of the sheet
+-- then it agrees with the sheet at each of these points, provided that what it names is a face of the sheet
 module _ (rs : List Record) (q : Cube) (l : Leaf) (says : Says rs q l) (p : FractionalPoint) (closed : InClosed q p) where
   state-is : stateBy (l .class) (l .face) ≡ says .state
   state-is = rw (says .class, says .face) (back-again (says .state))
@@ -45,7 +48,7 @@ module _ (rs : List Record) (q : Cube) (l : Leaf) (says : Says rs q l) (p : Frac
     complement = λ e. (complement e, by-class 3 e);
   }
 
--- a map that opens with the faces of the sheet, each leaf of which says such a thing of its own cube
+-- a map is truthful if it opens with the faces of the sheet and each leaf says what a sound state says of its cube
 pub truthful-map : (sheet map : List ℕ) → Opens (hasFace (recordsOf sheet)) map
     → ((i : ℕ) → i < length (leavesOf map) → Says (recordsOf sheet) (nthCube map i) (nthLeaf map i)) → Truthful sheet map
 truthful-map sheet map opens says = record {
@@ -54,6 +57,10 @@ truthful-map sheet map opens says = record {
       let good = opens .good i (t .among) in
       leaf-agrees (recordsOf sheet) (nthCube map i) (nthLeaf map i) (says i (t .among)) p (t .closed) (good .terminal) (good .complement);
 }
+
+-- zone_open opens a truthful map, so that its leaves tile its root
+pub truthful-opens : (sheet map : List ℕ) → Truthful sheet map → zoneOpenOf map .code ≡ 0
+truthful-opens sheet map t = ap (λ (r : ZoneReply). r .code) (opens map .done (any-opens (hasFace (recordsOf sheet)) map (t .opens)))
 
 pub no-touch : (sheet one other : List ℕ) → Truthful sheet one → Truthful sheet other → NoTouch one other
 no-touch sheet one other t u p i j white black touches-one touches-other =

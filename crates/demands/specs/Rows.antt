@@ -25,7 +25,7 @@ use Rattle.tree.specs.Solid.{solidState}
 use Rattle.lookup.specs.Lookup.{leafHolding}
 use Rattle.zone.specs.Replies.{reply, zoneOutcome, zoneBuildOf, zoneLookupOf}
 
--- one claim of a list of statements: all of them hold
+-- one claim for a list of statements: all of them hold
 unfoldable pub AllHold : List (Type 0) → Type 0
 AllHold [] = Unit {0}
 AllHold (row ∷ rows) = row × AllHold rows
@@ -33,7 +33,7 @@ AllHold (row ∷ rows) = row × AllHold rows
 abbrev leaf : ℕ → ℕ → ℕ → Leaf
 leaf level class face = record { level = level; class = class; face = face }
 
--- zone_build of S at depth d, into any buffer that has room, gives code 0 with the number of bytes, and this map
+-- zone_build of S at depth d, into any buffer that has room, returns code 0 with the number of bytes, and writes this map
 abbrev Builds : ℕ → ℕ → List ℕ → Type 0
 Builds d size map = (out : List ℕ) → size ≤ length out → zoneBuildOf stepSheet (stepRoot d) out ≡ zoneOutcome (reply 0 size) (map ++ drop size out)
 
@@ -55,7 +55,7 @@ at x y = record { x = pos x; y = pos y; z = pos 0 }
 abbrev boundsAt : Cube → List Record → ℕ → Interval
 boundsAt q rs n = getD (entries q rs) n blank .bounds
 
--- the closed cube with x from `low` on, and y and z from 0 on
+-- the closed cube whose low corner is (low, 0, 0)
 abbrev along : ℤ → ℕ → Cube
 along low side = record { x = low; y = pos 0; z = pos 0; side = side; level = 0 }
 

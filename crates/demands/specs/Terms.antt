@@ -62,7 +62,7 @@ pub record Touches (map : List ℕ) (p : FractionalPoint) (i : ℕ) : Type 0 whe
   pub closed : InClosed (nthCube map i) p
 
 -- ---- what the rows of the table ask
--- An operand is the number of an earlier record, of the sort that record i asks.
+-- An operand is the number of an earlier record, of the sort that record i asks for.
 abbrev pub Operand : List Record → ℕ → ℕ → Type 0
 Operand rs i a = (a < i) × (sortOf (getD rs a X) ≡ askedOf (getD rs i X))
 

@@ -5,7 +5,7 @@ use Rattle.demands.proofs.Sheets.{checks, sheet-rows}
 use Rattle.demands.proofs.Opening.{opens, faults, open-row}
 use Rattle.demands.proofs.Outcomes.{one-reply, one-outcome, builds, build-refused, unchanged, build-rows}
 use Rattle.demands.proofs.Maps.{can-look-up, the-map}
-use Rattle.demands.proofs.Truthful.{no-touch}
+use Rattle.demands.proofs.Truthful.{truthful-opens, no-touch}
 use Rattle.demands.proofs.Soundness.{truthful}
 use Rattle.demands.proofs.Tiling.{tiling, covering}
 use Rattle.demands.proofs.Lookups.{looks-up, lookup-refused, lookup-rows, by-the-leaf, truth}
@@ -42,6 +42,7 @@ demand-3 = record {
   truthful = truthful;
   no-touch-built = λ sheet one other b c. no-touch sheet one other (truthful sheet one b) (truthful sheet other c);
   no-touch = no-touch;
+  opens = truthful-opens;
   tiling = tiling;
   covering = covering;
   truth = truth;

@@ -43,7 +43,8 @@ use Rattle.demands.proofs.AtPoint.{by-its-face}
 use Rattle.demands.proofs.Tiling.{found}
 
 -- ---- a sheet that is refused
-bad-sheet : (checked : Checked) → (checkedByNumber checked .code ≡ 0 → ⊥) → (rs : List Record) (map : List ℕ) (p : Point) → lookupByNumber (onSheet checked rs map p) ≡ checkedByNumber checked
+bad-sheet : (checked : Checked) → (checkedByNumber checked .code ≡ 0 → ⊥) → (rs : List Record) (map : List ℕ) (p : Point)
+    → lookupByNumber (onSheet checked rs map p) ≡ checkedByNumber checked
 bad-sheet (Good n) h rs map p = absurd (h refl)
 bad-sheet (Refused why) h rs map p = refl
 
@@ -141,7 +142,7 @@ module _ (sheet map : List ℕ) (p : Point) where
   }
 
 -- ---- the truth
--- a number is that of one side
+-- 1 and 0 are two sides, and 2 is neither
 same-side : (a b : Bool) → reply 0 (cond a 1 0) ≡ reply 0 (cond b 1 0) → a ≡ b
 same-side true true e = refl
 same-side true false e = let z : _≡_ {A = ℕ} 1 0 = ap (λ (r : ZoneReply). r .number) e in absurd (omega arith)
@@ -152,8 +153,9 @@ no-side : (b : Bool) → reply 0 2 ≡ reply 0 (cond b 1 0) → ⊥
 no-side true e = let z : _≡_ {A = ℕ} 2 1 = ap (λ (r : ZoneReply). r .number) e in omega arith
 no-side false e = let z : _≡_ {A = ℕ} 2 0 = ap (λ (r : ZoneReply). r .number) e in omega arith
 
--- a leaf that agrees with the sheet at the position decides by the truth, or leaves it open
-module _ (sheet map : List ℕ) (p : Point) (t : ByTheLeaf sheet map p) (h : Agrees (recordsOf sheet) (nthLeaf map (t .number)) (whole p)) (class : nthLeaf map (t .number) .class ≤ 4) (side : Bool) (e : zoneLookupOf sheet map p ≡ reply 0 (cond side 1 0)) where
+-- a leaf that agrees with the sheet at the position tells the truth, or leaves it open
+module _ (sheet map : List ℕ) (p : Point) (t : ByTheLeaf sheet map p) (h : Agrees (recordsOf sheet) (nthLeaf map (t .number)) (whole p))
+    (class : nthLeaf map (t .number) .class ≤ 4) (side : Bool) (e : zoneLookupOf sheet map p ≡ reply 0 (cond side 1 0)) where
   abbrev l : Leaf
   l = nthLeaf map (t .number)
 

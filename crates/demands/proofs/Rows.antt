@@ -28,7 +28,7 @@ use Rattle.zone.specs.Replies.{reply, zoneOutcome, builtByNumber, zoneBuildOf, 
 use Rattle.demands.specs.Rows.{AllHold, elevenRows}
 use Rattle.demands.proofs.Outcomes.{made}
 
--- a map of n bytes is stored where it has room, and refused where it has none
+-- a map of n bytes is stored in a buffer that has room for it, and refused by 8 where there is none
 module _ (sheet : List ℕ) (root : Root) (map out : List ℕ) (n : ℕ) (e : buildOf sheet root out ≡ storedOf map out) (size : length map ≡ n) where
   pub stores : n ≤ length out → zoneBuildOf sheet root out ≡ zoneOutcome (reply 0 n) (map ++ drop n out)
   unfolding zoneBuildOf storedOf
@@ -43,7 +43,7 @@ looks-up : (p : Point) (r : Reply) → lookupOf stepSheet stepMap p ≡ r → zo
 unfolding zoneLookupOf
 looks-up p r e = ap lookupByNumber e
 
--- one leaf, where building is done
+-- a map of one leaf, where building returns code 0
 module _ (sheet : List ℕ) (root : Root) (out : List ℕ) (e : zoneBuildOf sheet root out .reply .code ≡ 0) (l : Leaf) (one : leavesBelow (recordsOf sheet) (root .d) (rootCube root) ≡ l ∷ []) where
   one-leaf : zoneBuildOf sheet root out ≡ zoneOutcome (reply 0 22) (mapOf root (l ∷ []) ++ drop 22 out)
   unfolding builtMap

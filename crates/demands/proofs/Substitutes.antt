@@ -51,7 +51,7 @@ module _ (r : ZoneReply) (out : List ℕ) (e : zoneOutcome r out ≡ zoneBuildOf
   pub not-unwritten : out ≡ room → ⊥
   not-unwritten h = let z : _≡_ {A = ℕ} 0 39 = ap (λ (b : List ℕ). getD b 3 0) (sym h ∙ no-other-bytes) in absurd (omega arith)
 
-  -- one that returns one gray leaf for all sheets
+  -- one that answers one gray leaf for all sheets
   pub not-one-gray-leaf : (rest : List ℕ) → out ≡ mapOf (stepRoot 1) (record { level = 0; class = 4; face = 0 } ∷ []) ++ rest → ⊥
   unfolding mapOf headerOf cornerBytes bytesOf unsigned32 leavesBytes leafBytes
   not-one-gray-leaf rest h = let z : _≡_ {A = ℕ} 18 39 = ap (λ (b : List ℕ). getD b 3 0) (sym h ∙ no-other-bytes) in absurd (omega arith)
@@ -84,7 +84,8 @@ gray-agrees rs leaf p e = record {
 }
 
 -- a map of gray leaves alone is truthful to every sheet
-pub gray-truthful : (sheet map : List ℕ) → Opens (hasFace (recordsOf sheet)) map → ((i : ℕ) → i < length (leavesOf map) → nthLeaf map i .class ≡ 4) → Truthful sheet map
+pub gray-truthful : (sheet map : List ℕ) → Opens (hasFace (recordsOf sheet)) map
+    → ((i : ℕ) → i < length (leavesOf map) → nthLeaf map i .class ≡ 4) → Truthful sheet map
 gray-truthful sheet map opens gray = record { opens = opens; agrees = λ p i t. gray-agrees (recordsOf sheet) (nthLeaf map i) p (gray i (t .among)) }
 
 -- ---- why a truthful map has to open
@@ -98,5 +99,6 @@ module _ (sheet map : List ℕ) (none : length (leavesOf map) ≡ 0) where
   not-truthful t = let e : 0 ≡ 8 ^ rootOf map .d = rw none at (t .opens .whole) in omega (arith, one-le-pow (rootOf map .d) 8 (omega arith), e)
 
 -- each point of a truthful map's closed root is in the closed cube of some leaf, which agrees with the sheet there
-pub everywhere : (sheet map : List ℕ) → Truthful sheet map → (p : FractionalPoint) → InClosedRoot (rootOf map) p → (i : ℕ) × (Touches map p i × Agrees (recordsOf sheet) (nthLeaf map i) p)
+pub everywhere : (sheet map : List ℕ) → Truthful sheet map → (p : FractionalPoint) → InClosedRoot (rootOf map) p
+    → (i : ℕ) × (Touches map p i × Agrees (recordsOf sheet) (nthLeaf map i) p)
 everywhere sheet map t p inside = let c = covering map (truthful-opens sheet map t) p inside in (c .0, (c .1, t .agrees p (c .0) (c .1)))

@@ -58,7 +58,7 @@ truthful-map sheet map opens says = record {
       leaf-agrees (recordsOf sheet) (nthCube map i) (nthLeaf map i) (says i (t .among)) p (t .closed) (good .terminal) (good .complement);
 }
 
--- zone_open opens a truthful map, so that its leaves tile its root
+-- zone_open opens it
 pub truthful-opens : (sheet map : List ℕ) → Truthful sheet map → zoneOpenOf map .code ≡ 0
 truthful-opens sheet map t = ap (λ (r : ZoneReply). r .code) (opens map .done (any-opens (hasFace (recordsOf sheet)) map (t .opens)))
 

@@ -69,17 +69,20 @@ pub record Demand2 : Type 0 where
 -- 3. Take any map built from a sheet, and any point of its closed root cube, its coordinates being fractions with one positive denominator. If it is in a white
 -- leaf's closed cube it is outside the solid; in a black one, inside; in a terminal one, it agrees with the named face or with its complement, as marked.
 pub record Demand3 : Type 0 where
-  -- a map that agrees with its sheet at all these points is truthful (specs/Terms)
+  -- `Truthful` (specs/Terms) says this of a map: each leaf agrees with the sheet, in these words, at every such point of its closed cube
   pub truthful : (sheet map : List ℕ) → Built sheet map → Truthful sheet map
   -- So no white leaf shares even a corner with a black leaf, in one map or in two maps built from that sheet with other roots or depths.
   pub no-touch-built : (sheet one other : List ℕ) → Built sheet one → Built sheet other → NoTouch one other
   -- the same holds of any two truthful maps of one sheet, however they were made
   pub no-touch : (sheet one other : List ℕ) → Truthful sheet one → Truthful sheet other → NoTouch one other
-  -- in every map that opens, each whole point of the root is in one leaf, and each point of the closed root is in the closed cube of some leaf
+  -- zone_open opens every truthful map
+  pub opens : (sheet map : List ℕ) → Truthful sheet map → zoneOpenOf map .code ≡ 0
+  -- in every map that it opens, each whole point of the root is in one leaf, and each point of the closed root is in the closed cube of some leaf
   pub tiling : (map : List ℕ) → zoneOpenOf map .code ≡ 0 → (p : Point) → InRoot (rootOf map) p → ExactlyOne (Holds map p)
   pub covering : (map : List ℕ) → zoneOpenOf map .code ≡ 0 → (p : FractionalPoint) → InClosedRoot (rootOf map) p → (i : ℕ) × Touches map p i
   -- where a lookup in a truthful map returns 1, inside, or 0, outside, that is the truth of the solid at the position
-  pub truth : (sheet map : List ℕ) → Truthful sheet map → (p : Point) (inside : Bool) → zoneLookupOf sheet map p ≡ reply 0 (cond inside 1 0) → inSolid (recordsOf sheet) (whole p) ≡ inside
+  pub truth : (sheet map : List ℕ) → Truthful sheet map → (p : Point) (inside : Bool) → zoneLookupOf sheet map p ≡ reply 0 (cond inside 1 0)
+      → inSolid (recordsOf sheet) (whole p) ≡ inside
 
 -- the three demands, and the eleven rows marked P
 pub record Demands : Type 0 where

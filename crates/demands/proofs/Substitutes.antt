@@ -1,9 +1,8 @@
 -- Wrong programs that the contract of `zone_build` shuts out, each on the step room at depth 1: what they would return is not what the contract says. And why demand 3
--- needs demand 2 beside it, and a truthful map has to open.
+-- needs demand 2 beside it, and what `Truthful` cannot do without.
 use mathlib.Core.Path.{_≡_, refl, sym, ap, _∙_}
 use mathlib.Core.List.{List, [], _∷_, _++_}
-use Prim.Native.Nat.{ℕ, _^_, _<_}
-use native.Mathlib.Nat.{one-le-pow}
+use Prim.Native.Nat.{ℕ, _-_, _<_}
 use native.Mathlib.Omega.{arith}
 use lib.ListN.{length, getD, replicate}
 use Rattle.bigendian.specs.Numbers.{bytesOf, unsigned32}
@@ -12,15 +11,17 @@ use Rattle.sheet.specs.Records.{recordsOf}
 use Rattle.sheet.specs.StepRoom.{stepSheet}
 use Rattle.records.specs.Faces.{hasFace}
 use Rattle.meaning.specs.Fractions.{FractionalPoint, InClosedRoot}
+use Rattle.meaning.specs.Truth.{holdsAt, inSolid}
 use Rattle.zonemap.specs.declared.Leaf.{Leaf}
 use Rattle.zonemap.specs.Map.{leafBytes, leavesBytes, cornerBytes, headerOf, mapOf}
-use Rattle.zonemap.specs.Opening.{rootOf, leavesOf}
-use Rattle.zonemap.specs.Leaves.{placeAt, nthLeaf}
+use Rattle.zonemap.specs.Opening.{rootOf, leavesIn, leavesOf}
+use Rattle.zonemap.specs.Leaves.{nthLeaf}
 use Rattle.zonemap.specs.StepRoom.{stepRoot, stepMap}
 use Rattle.building.proofs.Rows.{build-1}
 use Rattle.zone.specs.declared.ZoneReply.{ZoneReply}
-use Rattle.zone.specs.Replies.{reply, ZoneOutcome, zoneOutcome, zoneBuildOf}
+use Rattle.zone.specs.Replies.{reply, ZoneOutcome, zoneOutcome, zoneBuildOf, zoneOpenOf}
 use Rattle.demands.specs.Terms.{Touches, Opens, Agrees, Truthful}
+use Rattle.demands.proofs.Opening.{opens}
 use Rattle.demands.proofs.Truthful.{truthful-opens}
 use Rattle.demands.proofs.Tiling.{covering}
 use Rattle.demands.proofs.Rows.{stores, refuses}
@@ -88,17 +89,21 @@ pub gray-truthful : (sheet map : List ℕ) → Opens (hasFace (recordsOf sheet))
     → ((i : ℕ) → i < length (leavesOf map) → nthLeaf map i .class ≡ 4) → Truthful sheet map
 gray-truthful sheet map opens gray = record { opens = opens; agrees = λ p i t. gray-agrees (recordsOf sheet) (nthLeaf map i) p (gray i (t .among)) }
 
--- ---- why a truthful map has to open
--- Where there are no leaves, all of them agree with every sheet; such bytes do not open.
-module _ (sheet map : List ℕ) (none : length (leavesOf map) ≡ 0) where
-  pub no-leaf-agrees : (p : FractionalPoint) (i : ℕ) → Touches map p i → Agrees (recordsOf sheet) (nthLeaf map i) p
-  no-leaf-agrees p i t = absurd (omega (arith, none, t .among))
+-- ---- what `Truthful` cannot do without
+-- That the map opens: bytes that hold no leaf agree with every sheet. If that made them truthful, it would be false that zone_open opens every truthful map.
+no-leaf-agrees : (sheet map : List ℕ) → length (leavesOf map) ≡ 0 → (p : FractionalPoint) (i : ℕ) → Touches map p i → Agrees (recordsOf sheet) (nthLeaf map i) p
+no-leaf-agrees sheet map none p i t = absurd (omega (arith, none, t .among))
 
-  pub not-truthful : Truthful sheet map → ⊥
-  unfolding placeAt
-  not-truthful t = let e : 0 ≡ 8 ^ rootOf map .d = rw none at (t .opens .whole) in omega (arith, one-le-pow (rootOf map .d) 8 (omega arith), e)
+pub opens-needed : ((sheet map : List ℕ) → ((p : FractionalPoint) (i : ℕ) → Touches map p i → Agrees (recordsOf sheet) (nthLeaf map i) p) → zoneOpenOf map .code ≡ 0) → ⊥
+unfolding leavesIn
+opens-needed opened = let told = opens [] .only (opened [] [] (no-leaf-agrees [] [] refl)) in omega (arith, told .agrees)
 
--- each point of a truthful map's closed root is in the closed cube of some leaf, which agrees with the sheet there
+-- That what a terminal leaf names is a face: the solid's own record agrees with the solid at every point.
+pub solid-agrees : (rs : List Record) (p : FractionalPoint) → inSolid rs p ≡ holdsAt rs (length rs - 1) p
+unfolding inSolid
+solid-agrees rs p = refl
+
+-- As it stands, each point of a truthful map's closed root is in the closed cube of some leaf, which agrees with the sheet there.
 pub everywhere : (sheet map : List ℕ) → Truthful sheet map → (p : FractionalPoint) → InClosedRoot (rootOf map) p
     → (i : ℕ) × (Touches map p i × Agrees (recordsOf sheet) (nthLeaf map i) p)
 everywhere sheet map t p inside = let c = covering map (truthful-opens sheet map t) p inside in (c .0, (c .1, t .agrees p (c .0) (c .1)))

@@ -2,16 +2,21 @@
 -- the truth of the solid there.
 use mathlib.Core.Path.{_≡_, refl, sym, ap, _∙_}
 use mathlib.Core.Bool.{Bool, true, false, cond, not}
-use mathlib.Core.List.{List, []}
+use mathlib.Core.List.{List, [], _∷_}
 use Prim.Native.Nat.{ℕ, _≤_}
 use native.Mathlib.Omega.{arith}
 use borrow.Author.Tests.{eqb-true, eqb-false}
 use lib.Dec.{eqb}
+use Rattle.integers.specs.First.{onFirst}
 use Rattle.integers.proofs.First.{none-first}
 use Rattle.integers.proofs.Order.{by-test}
+use Rattle.replies.specs.declared.Refusal.{Refusal}
+use Rattle.replies.specs.declared.Refusal.the-variants.{OverRoot}
+use Rattle.replies.specs.declared.Reply.{Reply as Counted}
+use Rattle.replies.specs.declared.Reply.the-variants.{Done as Counts, Refused as Refuses}
+use Rattle.replies.specs.Table.{refusalOf}
+use Rattle.replies.proofs.Told.{no-code-0, not-refused}
 use Rattle.sheet.specs.declared.Record.{Record}
-use Rattle.sheet.specs.declared.Checked.{Checked}
-use Rattle.sheet.specs.declared.Checked.the-variants.{Good, Refused}
 use Rattle.sheet.specs.Records.{recordsOf}
 use Rattle.sheet.specs.Check.{checkOf}
 use Rattle.records.specs.Faces.{hasFace}
@@ -29,58 +34,53 @@ use Rattle.zonemap.specs.Opening.{rootOf, faultOf}
 use Rattle.zonemap.specs.Leaves.{nthLeaf, nthCube}
 use Rattle.zonemap.proofs.Finding.{leaf-bytes}
 use Rattle.zonemap.proofs.Tiling.{one}
+use Rattle.pair.specs.Pairs.{pairRefusal}
+use Rattle.pair.proofs.Openings.{pair-good, pair-opens}
 use Rattle.lookup.specs.declared.Reply.{Reply}
-use Rattle.lookup.specs.declared.Reply.the-variants.{Map, OverRoot}
-use Rattle.lookup.specs.Lookup.{answerNumber, answerOf, sideOf, leafHolding, mapReply, onSheet, lookupOf, codeOf}
+use Rattle.lookup.specs.declared.Reply.the-variants.{Refused}
+use Rattle.lookup.specs.Lookup.{answerNumber, answerOf, sideOf, leafHolding, pointReply, lookupOf, numbered}
 use Rattle.zone.specs.declared.ZoneReply.{ZoneReply}
-use Rattle.zone.specs.Replies.{reply, checkedByNumber, zoneCheckOf, lookupByNumber, zoneLookupOf}
+use Rattle.zone.specs.Replies.{reply, byNumber, zoneCheckOf, zoneLookupOf}
 use Rattle.demands.specs.Terms.{DoneWhere, Touches, GoodSheet, GoodLeaf, CanLookUp, Agrees, Truthful}
 use Rattle.demands.specs.Table.{LookupRows}
 use Rattle.demands.specs.Demands.{ByTheLeaf}
-use Rattle.demands.proofs.Sheets.{sheet-code, check-good, good-check}
+use Rattle.demands.proofs.Sheets.{check-good, good-check}
 use Rattle.demands.proofs.Opening.{opens-told, opens-fault}
 use Rattle.demands.proofs.AtPoint.{by-its-face}
 use Rattle.demands.proofs.Tiling.{found}
 
 -- ---- a sheet that is refused
-bad-sheet : (checked : Checked) → (checkedByNumber checked .code ≡ 0 → ⊥) → (rs : List Record) (map : List ℕ) (p : Point)
-    → lookupByNumber (onSheet checked rs map p) ≡ checkedByNumber checked
-bad-sheet (Good n) h rs map p = absurd (h refl)
-bad-sheet (Refused why) h rs map p = refl
+bad-sheet : (r : Counted) → (byNumber r .code ≡ 0 → ⊥) → (none : List Refusal) (rest : Reply)
+    → byNumber (numbered (onFirst (onFirst (refusalOf r) (λ why. why ∷ []) none) Refused rest)) ≡ byNumber r
+bad-sheet (Counts n) h none rest = absurd (h refl)
+bad-sheet (Refuses why) h none rest = refl
 
 pub lookup-refused : (sheet : List ℕ) → (zoneCheckOf sheet .code ≡ 0 → ⊥) → (map : List ℕ) (p : Point) → zoneLookupOf sheet map p ≡ zoneCheckOf sheet
-unfolding zoneLookupOf lookupOf zoneCheckOf
-lookup-refused sheet h map p = bad-sheet (checkOf sheet) h (recordsOf sheet) map p
+unfolding zoneLookupOf lookupOf pairRefusal zoneCheckOf
+lookup-refused sheet h map p = bad-sheet (checkOf sheet) h _ _
 
 -- ---- code 0 exactly where no row refuses
 abbrev Answers : Reply → Type 0
-Answers r = codeOf r ≡ 0
+Answers r = byNumber (numbered r) .code ≡ 0
 
 module _ (sheet map : List ℕ) (p : Point) where
   abbrev rs : List Record
   rs = recordsOf sheet
 
-  map-looks-up : GoodSheet sheet → codeOf (mapReply rs map p) ≡ 0 → CanLookUp sheet map p
-  unfolding mapReply
-  map-looks-up g e =
-      let opened = none-first Answers Map _ (faultOf (hasFace rs) map) (λ at z. omega arith) e in
-      let over = none-first Answers OverRoot _ (firstPast rs (rootCube (rootOf map))) (λ at z. omega arith) (opened .1) in
+  looks-up-only : zoneLookupOf sheet map p .code ≡ 0 → CanLookUp sheet map p
+  unfolding zoneLookupOf lookupOf pointReply
+  looks-up-only e =
+      let opened = none-first Answers Refused _ (pairRefusal sheet map) no-code-0 e in
+      let over = none-first Answers (λ n. Refused (OverRoot n)) _ (firstPast rs (rootCube (rootOf map))) (λ at z. omega arith) (opened .1) in
+      let good = not-refused (checkOf sheet) (pair-good sheet map (opened .0)) in
       by-test (holdsPoint (rootCube (rootOf map)) p)
       (λ t. record {
-        good = g;
-        opens = opens-told (hasFace rs) map (opened .0);
+        good = check-good sheet (good .0) (good .1);
+        opens = opens-told (hasFace rs) map (pair-opens sheet map (opened .0));
         bounded = none-keep rs (rootCube (rootOf map)) (over .0);
         inside = in-root (rootOf map) p t;
       })
       (λ t. let z : _≡_ {A = ℕ} 10 0 = rw t at (over .1) in absurd (omega arith))
-
-  sheet-looks-up : (checked : Checked) → checkOf sheet ≡ checked → codeOf (onSheet checked rs map p) ≡ 0 → CanLookUp sheet map p
-  sheet-looks-up (Good n) g e = map-looks-up (check-good sheet n g) e
-  sheet-looks-up (Refused why) g e = absurd (sheet-code why e)
-
-  looks-up-only : zoneLookupOf sheet map p .code ≡ 0 → CanLookUp sheet map p
-  unfolding zoneLookupOf lookupOf
-  looks-up-only e = sheet-looks-up (checkOf sheet) refl e
 
   -- ---- by the leaf
   module _ (c : CanLookUp sheet map p) where
@@ -94,7 +94,7 @@ module _ (sheet map : List ℕ) (p : Point) where
     leaf = nthLeaf map number
 
     answer : zoneLookupOf sheet map p ≡ reply 0 (answerNumber (answerOf rs leaf p))
-    unfolding zoneLookupOf leafHolding lookupOf mapReply
+    unfolding zoneLookupOf leafHolding lookupOf pairRefusal pointReply
     answer =
         let h = found (hasFace rs) map opens p (c .inside) in
         rw (good-check sheet (c .good), opens, keep-none rs (rootCube (rootOf map)) (c .bounded), root-holds (rootOf map) p (c .inside))
@@ -134,7 +134,7 @@ module _ (sheet map : List ℕ) (p : Point) where
   out-of-root h = by-test (holdsPoint (rootCube (rootOf map)) p) (λ t. absurd (h (in-root (rootOf map) p t))) (λ t. t)
 
   pub lookup-rows : (good : GoodSheet sheet) → LookupRows sheet good map p
-  unfolding zoneLookupOf lookupOf mapReply
+  unfolding zoneLookupOf lookupOf pairRefusal pointReply
   lookup-rows good = record {
     row-9 = λ at fault. rw (good-check sheet good, fault);
     row-7 = λ opens n past. rw (good-check sheet good, opens-fault (hasFace rs) map opens, past);

@@ -5,8 +5,8 @@ use mathlib.Core.List.{List, [], _++_}
 use Prim.Native.Nat.{ℕ, _<_}
 use lib.ListN.{length, take, drop}
 use lib.Seq.{take-append-seam, drop-append-seam}
+use Rattle.replies.specs.declared.Reply.the-variants.{Done}
 use Rattle.sheet.specs.declared.Record.{Record}
-use Rattle.sheet.specs.declared.Checked.the-variants.{Good}
 use Rattle.sheet.specs.Records.{recordsOf}
 use Rattle.sheet.specs.Check.{checkOf}
 use Rattle.records.specs.Faces.{hasFace}
@@ -46,7 +46,7 @@ module _ (sheet map : List ℕ) (b : Built sheet map) where
   root = b .root
 
   -- the sheet is good, and the buffer begins with its map
-  told : ((n : ℕ) × (checkOf sheet ≡ Good n)) × Made (b .size) (b .before) (b .after) rs root
+  told : ((n : ℕ) × (checkOf sheet ≡ Done n)) × Made (b .size) (b .before) (b .after) rs root
   told =
       let e = b .returned in
       let t = made sheet root (b .before) (sym (ap (λ (o : ZoneOutcome). o .reply .code) e)) in

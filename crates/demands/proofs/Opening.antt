@@ -10,17 +10,19 @@ use lib.ListN.{length, getD}
 use Rattle.bigendian.specs.Numbers.{unsignedAt}
 use Rattle.integers.proofs.First.{none-first}
 use Rattle.integers.proofs.Order.{by-test}
+use Rattle.replies.specs.declared.Refusal.the-variants.{Map}
+use Rattle.replies.specs.declared.Reply.{Reply}
+use Rattle.replies.specs.declared.Reply.the-variants.{Done, Refused}
 use Rattle.cube.specs.Limits.{WithinLimits}
 use Rattle.cube.proofs.Numbers.{within-limits, limits-within, out-of-limits}
 use Rattle.zonemap.specs.declared.Leaf.{Leaf}
-use Rattle.zonemap.specs.declared.Opened.{Opened}
-use Rattle.zonemap.specs.declared.Opened.the-variants.{Good, Bad}
 use Rattle.zonemap.specs.Map.{mapVersion}
 use Rattle.zonemap.specs.Opening.{lengthGood, rootOf, leavesOf, sizeOf, levelGood, faceGood, placeGood, leafGood, leavesFault, headerFault, faultOf, anyFace, openOf}
 use Rattle.zonemap.specs.Leaves.{nthLeaf, nthPlace}
 use Rattle.zonemap.proofs.Runs.{level-told, place-told, leaf-parts, Fine, run-at, run-end, at-run, opens-run, leaf-fault, end-fault, run-opens}
 use Rattle.zonemap.proofs.Finding.{leaves-count, header-told, opens-parts}
-use Rattle.zone.specs.Replies.{reply, openedByNumber, zoneOpenOf}
+use Rattle.zone.specs.Replies.{reply, zoneOpenOf}
+use Rattle.zone.proofs.ByNumber.{done-code}
 use Rattle.demands.specs.Terms.{DoneWhere, GoodLeaf, Opens}
 use Rattle.demands.specs.Table.{Faults}
 
@@ -179,19 +181,15 @@ any-opens named map o = record {
 }
 
 -- ---- zone_open
-opened-code : (o : Opened) → openedByNumber o .code ≡ 0 → (n : ℕ) × (o ≡ Good n)
-opened-code (Good n) e = (n, refl)
-opened-code (Bad at) e = absurd (omega arith)
-
 module _ (map : List ℕ) where
-  no-fault : (n : ℕ) → openOf map ≡ Good n → faultOf anyFace map ≡ []
+  no-fault : (n : ℕ) → openOf map ≡ Done n → faultOf anyFace map ≡ []
   unfolding openOf
-  no-fault n e = none-first (λ (o : Opened). o ≡ Good n) Bad _ (faultOf anyFace map) (λ at c. let z : _≡_ {A = ℕ} 0 1 = cc in omega arith) e .0
+  no-fault n e = none-first (λ (r : Reply). r ≡ Done n) (λ at. Refused (Map at)) _ (faultOf anyFace map) (λ at c. let z : _≡_ {A = ℕ} 0 1 = cc in omega arith) e .0
 
   -- the map that zone_open opens has no fault
   pub opened-fault : zoneOpenOf map .code ≡ 0 → faultOf anyFace map ≡ []
   unfolding zoneOpenOf
-  opened-fault e = let t = opened-code (openOf map) e in no-fault (t .0) (t .1)
+  opened-fault e = no-fault _ (done-code (openOf map) e)
 
   pub opens : DoneWhere (Opens anyFace map) (zoneOpenOf map) (length (leavesOf map))
   unfolding zoneOpenOf openOf

@@ -1,4 +1,4 @@
--- What zone_build answers: code 0 exactly where no row of the table refuses, and where one does the lent buffer is as it was.
+-- What zone_build returns: code 0 exactly where no row of the table refuses, and where one does the lent buffer is as it was.
 use mathlib.Core.Path.{_≡_, refl, sym, ap}
 use mathlib.Core.List.{List}
 use Prim.Native.Nat.{ℕ}
@@ -6,11 +6,15 @@ use native.Mathlib.Omega.{arith}
 use borrow.Author.Tests.{le-ltb, lt-ltb}
 use lib.Dec.{ltb}
 use lib.ListN.{length}
+use Rattle.integers.specs.First.{onFirst}
 use Rattle.integers.proofs.First.{each-first}
 use Rattle.integers.proofs.Order.{by-test}
+use Rattle.replies.specs.declared.Refusal.the-variants.{OverRoot, OverSmaller}
+use Rattle.replies.specs.declared.Reply.{Reply}
+use Rattle.replies.specs.declared.Reply.the-variants.{Done, Refused}
+use Rattle.replies.specs.Table.{refusalOf}
+use Rattle.replies.proofs.Told.{not-refused}
 use Rattle.sheet.specs.declared.Record.{Record}
-use Rattle.sheet.specs.declared.Checked.{Checked}
-use Rattle.sheet.specs.declared.Checked.the-variants.{Good, Refused}
 use Rattle.sheet.specs.Records.{recordsOf}
 use Rattle.sheet.specs.Check.{checkOf}
 use Rattle.cube.specs.declared.Root.{Root}
@@ -19,16 +23,15 @@ use Rattle.cube.specs.Cubes.{rootCube}
 use Rattle.cube.proofs.Numbers.{within-limits, limits-within, out-of-limits}
 use Rattle.colour.specs.Entries.{firstPast}
 use Rattle.colour.proofs.Smaller.{none-keep, keep-none}
-use Rattle.building.specs.declared.Reply.{Reply}
-use Rattle.building.specs.declared.Reply.the-variants.{Done, Sheet, Limits, OverRoot, OverSmaller, Short}
 use Rattle.tree.specs.Solid.{pastInTree}
-use Rattle.building.specs.Build.{Outcome, outcome, builtMap, storedOf, overRootOf, onSheet, buildOf, codeOf, numberOf}
+use Rattle.building.specs.Build.{Outcome, outcome, builtMap, storedOf, overRootOf, buildOf}
 use Rattle.building.proofs.Answers.{Made, done-made}
 use Rattle.zone.specs.declared.ZoneReply.{ZoneReply}
-use Rattle.zone.specs.Replies.{reply, checkedByNumber, zoneCheckOf, ZoneOutcome, zoneOutcome, builtByNumber, zoneBuildOf}
+use Rattle.zone.specs.Replies.{byNumber, zoneCheckOf, ZoneOutcome, zoneOutcome, outcomeByNumber, zoneBuildOf}
+use Rattle.zone.proofs.ByNumber.{done-code}
 use Rattle.demands.specs.Terms.{ExactlyOne, DoneWhere, GoodSheet, CanBuild}
 use Rattle.demands.specs.Table.{BuildRows}
-use Rattle.demands.proofs.Sheets.{sheet-code, check-good, good-check}
+use Rattle.demands.proofs.Sheets.{check-good, good-check}
 
 -- ---- what an equation lets in is one
 pub one-reply : (told : ZoneReply) → ExactlyOne (λ (r : ZoneReply). r ≡ told)
@@ -44,7 +47,7 @@ one-outcome told = record {
 -- ---- where the code is not 0, the buffer is as it was
 module _ (before : List ℕ) where
   abbrev Kept : Outcome → Type 0
-  Kept o = (codeOf (o .reply) ≡ 0 → ⊥) → o .buffer ≡ before
+  Kept o = (byNumber (o .reply) .code ≡ 0 → ⊥) → o .buffer ≡ before
 
   stored-kept : (map : List ℕ) → Kept (storedOf map before)
   unfolding storedOf
@@ -58,45 +61,33 @@ module _ (before : List ℕ) where
   solid-kept rs root =
       by-test (inLimits root)
       (λ t. rw t
-      (each-first Kept (λ n. outcome (OverRoot n) before) _ (firstPast rs (rootCube root)) (λ n _. refl)
-      (each-first Kept (λ n. outcome (OverSmaller n) before) _ (pastInTree rs (root .d) (rootCube root)) (λ n _. refl)
+      (each-first Kept (λ n. outcome (Refused (OverRoot n)) before) _ (firstPast rs (rootCube root)) (λ n _. refl)
+      (each-first Kept (λ n. outcome (Refused (OverSmaller n)) before) _ (pastInTree rs (root .d) (rootCube root)) (λ n _. refl)
       (stored-kept (builtMap rs root)))))
       (λ t. rw t (λ _. refl))
 
-  sheet-kept : (checked : Checked) (rs : List Record) (root : Root) → Kept (onSheet checked rs root before)
-  sheet-kept (Good n) rs root = solid-kept rs root
-  sheet-kept (Refused why) rs root = λ _. refl
-
   pub unchanged : (sheet : List ℕ) (root : Root) → (zoneBuildOf sheet root before .reply .code ≡ 0 → ⊥) → zoneBuildOf sheet root before .buffer ≡ before
   unfolding zoneBuildOf buildOf
-  unchanged sheet root = sheet-kept (checkOf sheet) (recordsOf sheet) root
+  unchanged sheet root = each-first Kept (λ why. outcome (Refused why) before) _ (refusalOf (checkOf sheet)) (λ why _. refl) (solid-kept (recordsOf sheet) root)
 
 -- ---- a sheet that is refused
-bad-sheet : (checked : Checked) → (checkedByNumber checked .code ≡ 0 → ⊥) → (rs : List Record) (root : Root) (before : List ℕ) → builtByNumber (onSheet checked rs root before) ≡ zoneOutcome (checkedByNumber checked) before
-bad-sheet (Good n) h rs root before = absurd (h refl)
-bad-sheet (Refused why) h rs root before = refl
+bad-sheet : (r : Reply) → (byNumber r .code ≡ 0 → ⊥) → (before : List ℕ) (rest : Outcome) → outcomeByNumber (onFirst (refusalOf r) (λ why. outcome (Refused why) before) rest) ≡ zoneOutcome (byNumber r) before
+bad-sheet (Done n) h before rest = absurd (h refl)
+bad-sheet (Refused why) h before rest = refl
 
 pub build-refused : (sheet : List ℕ) → (zoneCheckOf sheet .code ≡ 0 → ⊥) → (root : Root) (before : List ℕ) → zoneBuildOf sheet root before ≡ zoneOutcome (zoneCheckOf sheet) before
 unfolding zoneBuildOf buildOf zoneCheckOf
-build-refused sheet h root before = bad-sheet (checkOf sheet) h (recordsOf sheet) root before
+build-refused sheet h root before = bad-sheet (checkOf sheet) h before (overRootOf (recordsOf sheet) root before)
 
 -- ---- done exactly where all is fine
--- code 0 is that of `Done` alone
-done-code : (r : Reply) → codeOf r ≡ 0 → r ≡ Done (numberOf r)
-done-code (Done n) e = refl
-done-code (Sheet why) e = absurd (sheet-code why e)
-done-code Limits e = absurd (omega arith)
-done-code (OverRoot n) e = absurd (omega arith)
-done-code (OverSmaller n) e = absurd (omega arith)
-done-code (Short n) e = absurd (omega arith)
-
--- so that a map stands at the start of the buffer
+-- code 0: the sheet is good, and its map stands at the start of the buffer
 pub made : (sheet : List ℕ) (root : Root) (before : List ℕ) → zoneBuildOf sheet root before .reply .code ≡ 0
-    → ((n : ℕ) × (checkOf sheet ≡ Good n)) × Made (zoneBuildOf sheet root before .reply .number) before (zoneBuildOf sheet root before .buffer) (recordsOf sheet) root
+    → ((n : ℕ) × (checkOf sheet ≡ Done n)) × Made (zoneBuildOf sheet root before .reply .number) before (zoneBuildOf sheet root before .buffer) (recordsOf sheet) root
 unfolding zoneBuildOf
 made sheet root before e =
     let o : Outcome = buildOf sheet root before in
-    done-made sheet root before (o .buffer) (numberOf (o .reply)) (ap (λ (r : Reply). outcome r (o .buffer)) (sym (done-code (o .reply) e)))
+    let t = done-made sheet root before (o .buffer) (byNumber (o .reply) .number) (ap (λ (r : Reply). outcome r (o .buffer)) (sym (done-code (o .reply) e))) in
+    (not-refused (checkOf sheet) (t .0), t .1)
 
 module _ (sheet : List ℕ) (root : Root) (before : List ℕ) where
   abbrev rs : List Record

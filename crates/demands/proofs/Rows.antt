@@ -20,11 +20,12 @@ use Rattle.colour.specs.States.{faceState}
 use Rattle.colour.proofs.Rows.{product-row, square-row, unrelated-row}
 use Rattle.tree.specs.Solid.{leavesBelow}
 use Rattle.building.specs.Build.{builtMap, storedOf, buildOf}
-use Rattle.building.proofs.Rows.{depth-2, build-0, build-1, build-2, one-face}
+use Rattle.tree.proofs.Rows.{depth-2, one-face}
+use Rattle.building.proofs.Rows.{build-0, build-1, build-2}
 use Rattle.lookup.proofs.Rows.{by-face-5, inside-2-0-0, outside-3-0-0, undecided-2-2-0, not-in-root-4-0-0}
 use Rattle.lookup.specs.declared.Reply.{Reply}
-use Rattle.lookup.specs.Lookup.{lookupOf}
-use Rattle.zone.specs.Replies.{reply, zoneOutcome, builtByNumber, zoneBuildOf, lookupByNumber, zoneLookupOf}
+use Rattle.lookup.specs.Lookup.{lookupOf, numbered}
+use Rattle.zone.specs.Replies.{reply, byNumber, zoneOutcome, outcomeByNumber, zoneBuildOf, zoneLookupOf}
 use Rattle.demands.specs.Rows.{AllHold, elevenRows}
 use Rattle.demands.proofs.Outcomes.{made}
 
@@ -32,16 +33,16 @@ use Rattle.demands.proofs.Outcomes.{made}
 module _ (sheet : List ℕ) (root : Root) (map out : List ℕ) (n : ℕ) (e : buildOf sheet root out ≡ storedOf map out) (size : length map ≡ n) where
   pub stores : n ≤ length out → zoneBuildOf sheet root out ≡ zoneOutcome (reply 0 n) (map ++ drop n out)
   unfolding zoneBuildOf storedOf
-  stores h = ap builtByNumber e ∙ rw (size, le-ltb (length out) n h)
+  stores h = ap outcomeByNumber e ∙ rw (size, le-ltb (length out) n h)
 
   pub refuses : length out < n → zoneBuildOf sheet root out ≡ zoneOutcome (reply 8 n) out
   unfolding zoneBuildOf storedOf
-  refuses h = ap builtByNumber e ∙ rw (size, lt-ltb (length out) n h)
+  refuses h = ap outcomeByNumber e ∙ rw (size, lt-ltb (length out) n h)
 
 -- a lookup by number
-looks-up : (p : Point) (r : Reply) → lookupOf stepSheet stepMap p ≡ r → zoneLookupOf stepSheet stepMap p ≡ lookupByNumber r
+looks-up : (p : Point) (r : Reply) → lookupOf stepSheet stepMap p ≡ r → zoneLookupOf stepSheet stepMap p ≡ byNumber (numbered r)
 unfolding zoneLookupOf
-looks-up p r e = ap lookupByNumber e
+looks-up p r e = ap (λ (q : Reply). byNumber (numbered q)) e
 
 -- a map of one leaf, where building returns code 0
 module _ (sheet : List ℕ) (root : Root) (out : List ℕ) (e : zoneBuildOf sheet root out .reply .code ≡ 0) (l : Leaf) (one : leavesBelow (recordsOf sheet) (root .d) (rootCube root) ≡ l ∷ []) where

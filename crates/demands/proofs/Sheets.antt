@@ -9,34 +9,20 @@ use lib.Dec.{eqb, ltb}
 use lib.ListN.{length, getD}
 use Rattle.bigendian.specs.Numbers.{unsignedAt}
 use Rattle.integers.proofs.Order.{by-test}
+use Rattle.replies.specs.declared.Refusal.the-variants.{Solid}
+use Rattle.replies.specs.declared.Reply.the-variants.{Done, Refused}
 use Rattle.sheet.specs.declared.Record.{Record}
 use Rattle.sheet.specs.declared.Sort.{Sort}
 use Rattle.sheet.specs.declared.Sort.the-variants.{Neither, Arithmetic, Logical}
-use Rattle.sheet.specs.declared.Refusal.{Refusal}
-use Rattle.sheet.specs.declared.Refusal.the-variants.{Length, Version, Operand, Solid, Record as BadRecord}
-use Rattle.sheet.specs.declared.Checked.{Checked}
-use Rattle.sheet.specs.declared.Checked.the-variants.{Good, Refused}
 use Rattle.sheet.specs.Records.{recordsOf, stopOf}
 use Rattle.sheet.specs.Operands.{firstUnmet, lastSort}
-use Rattle.sheet.specs.Check.{lengthFails, solidOf, sortedOf, checkOf, codeOf}
+use Rattle.sheet.specs.Check.{lengthFails, solidOf, checkRecords, checkOf}
 use Rattle.sheet.proofs.Unmet.{none-unmet, all-operands}
 use Rattle.sheet.proofs.Good.{sorted-good, check-parts}
-use Rattle.zone.specs.Replies.{checkedByNumber, zoneCheckOf}
+use Rattle.zone.specs.Replies.{zoneCheckOf}
+use Rattle.zone.proofs.ByNumber.{done-code}
 use Rattle.demands.specs.Terms.{DoneWhere, GoodSheet}
 use Rattle.demands.specs.Table.{SheetRows}
-
--- no refusal of a sheet has code 0
-pub sheet-code : (why : Refusal) → codeOf why ≡ 0 → ⊥
-sheet-code Length e = omega arith
-sheet-code Version e = omega arith
-sheet-code (BadRecord at) e = omega arith
-sheet-code (Operand n) e = omega arith
-sheet-code (Solid n) e = omega arith
-
--- code 0 is that of `Good` alone
-pub good-code : (checked : Checked) → checkedByNumber checked .code ≡ 0 → (n : ℕ) × (checked ≡ Good n)
-good-code (Good n) e = (n, refl)
-good-code (Refused why) e = absurd (sheet-code why e)
 
 -- ---- the length
 module _ (s : List ℕ) where
@@ -64,7 +50,7 @@ module _ (s : List ℕ) where
   abbrev rs : List Record
   rs = recordsOf s
 
-  pub check-good : (n : ℕ) → checkOf s ≡ Good n → GoodSheet s
+  pub check-good : (n : ℕ) → checkOf s ≡ Done n → GoodSheet s
   check-good n e =
       let t = check-parts s n e in
       let l = length-told s (t .0) in
@@ -72,26 +58,26 @@ module _ (s : List ℕ) where
       record { long = l .0; agrees = l .1; version = t .1; framed = t .2; operands = none-unmet rs (o .1); solid = o .2 }
 
   module _ (agrees : lengthFails s ≡ false) (version : getD s 2 0 ≡ 1) (framed : length s ≤ stopOf s) where
-    on-records : checkOf s ≡ sortedOf rs
+    on-records : checkOf s ≡ checkRecords rs
     unfolding checkOf
     on-records = rw (agrees, version, le-ltb (stopOf s) (length s) framed)
 
     met-records : firstUnmet [] rs ≡ length rs → checkOf s ≡ solidOf (lastSort rs) (length rs)
-    unfolding sortedOf
+    unfolding checkRecords
     met-records e = on-records ∙ rw (e, le-ltb (length rs) (length rs) (omega arith))
 
-  pub good-check : GoodSheet s → checkOf s ≡ Good (length rs)
+  pub good-check : GoodSheet s → checkOf s ≡ Done (length rs)
   good-check g = met-records (length-good s (g .long) (g .agrees)) (g .version) (g .framed) (all-operands rs (g .operands)) ∙ rw (g .solid)
 
   pub checks : DoneWhere (GoodSheet s) (zoneCheckOf s) (length rs)
   unfolding zoneCheckOf
   checks = record {
     done = λ g. rw (good-check g);
-    only = λ e. let t = good-code (checkOf s) e in check-good (t .0) (t .1);
+    only = λ e. check-good _ (done-code (checkOf s) e);
   }
 
   pub sheet-rows : SheetRows s
-  unfolding zoneCheckOf checkOf sortedOf
+  unfolding zoneCheckOf checkOf checkRecords
   sheet-rows = record {
     row-1 = λ fails. rw fails;
     row-2 = λ agrees other. rw (agrees, ne-eqb _ _ other);

@@ -1,5 +1,5 @@
 -- The reply by number, where the call behind it returned so.
-use mathlib.Core.Path.{_≡_, ap, _∙_}
+use mathlib.Core.Path.{_≡_, refl, ap, _∙_}
 use mathlib.Core.List.{List}
 use Prim.Native.Nat.{ℕ}
 use lib.IntN.{ℤ}
@@ -10,9 +10,10 @@ use Rattle.replies.specs.declared.Refusal.{Refusal}
 use Rattle.replies.specs.declared.Reply.{Reply}
 use Rattle.replies.specs.declared.Reply.the-variants.{Done, Refused}
 use Rattle.replies.specs.Table.{codeOf, numberOf}
+use Rattle.replies.proofs.Told.{no-code-0}
 use Rattle.sheet.specs.Check.{checkOf}
 use Rattle.zonemap.specs.Opening.{openOf}
-use Rattle.building.specs.Build.{Outcome, outcome, buildOf}
+use Rattle.building.specs.Build.{outcome, buildOf}
 use Rattle.lookup.specs.declared.Reply.{Reply as LookupReply}
 use Rattle.lookup.specs.Lookup.{lookupOf, numbered}
 use Rattle.zone.specs.declared.ZoneReply.{ZoneReply}
@@ -25,6 +26,11 @@ module _ (r : Reply) where
 
   pub refused-by-number : (why : Refusal) (code number : ℕ) → r ≡ Refused why → code ≡ codeOf why → number ≡ numberOf why → reply code number ≡ byNumber r
   refused-by-number why code number h c n = rw (h, c, n)
+
+-- code 0 is that of `Done` alone
+pub done-code : (r : Reply) → byNumber r .code ≡ 0 → r ≡ Done (byNumber r .number)
+done-code (Done n) e = refl
+done-code (Refused why) e = absurd (no-code-0 why e)
 
 -- ---- each call: r is what the call behind it returned, and told is r by number
 module _ (r : Reply) (told : ZoneReply) (t : told ≡ byNumber r) where

@@ -63,6 +63,14 @@ fn stored(sheet: &[u8], offsets: &[u16], solid: u8, root: Root, out: &mut [u8]) 
         return Reply::Refused(Refusal::Short(need));
     }
     zonemap::put_header(out, root, n as u32);
-    let _end = tree::write(sheet, offsets, out, zonemap::HEADER, solid, root.cube(), root.d);
+    let _end = tree::write(
+        sheet,
+        offsets,
+        out,
+        zonemap::HEADER,
+        solid,
+        root.cube(),
+        root.d,
+    );
     Reply::Done(need)
 }

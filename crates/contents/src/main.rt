@@ -9,10 +9,10 @@ fn main() {
 
 fn tell(s: &[u8]) {
     match sheet::check(s) {
-        sheet::Checked::Good(_) => {
+        replies::Reply::Done(_) => {
             records(s);
         }
-        sheet::Checked::Refused(why) => {
+        replies::Reply::Refused(why) => {
             let _refused = io::write_all(1, b"refused");
             number(why.code() as u64);
             number(why.number() as u64);

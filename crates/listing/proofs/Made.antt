@@ -9,11 +9,11 @@ use lib.Seq.{length-take-le, take-append-seam}
 use mir.Syntax.{w32}
 use mir.Val.{SFits, toZ, ofZ}
 use mir.Facts.{toZ-ofZ}
+use Rattle.replies.specs.declared.Reply.{Reply}
+use Rattle.replies.specs.declared.Reply.the-variants.{Done}
 use Rattle.sheet.specs.Records.{recordsOf}
 use Rattle.cube.specs.declared.Root.{Root}
 use Rattle.zonemap.specs.Opening.{rootOf, faultOf}
-use Rattle.building.specs.declared.Reply.{Reply}
-use Rattle.building.specs.declared.Reply.the-variants.{Done}
 use Rattle.building.specs.Build.{outcome, builtMap, buildOf}
 use Rattle.building.proofs.Answers.{Made, done-made}
 use Rattle.roundtrip.proofs.Built.{built-opens, built-root}
@@ -35,7 +35,11 @@ module _ (s : List ℕ) (r : Root) (out after : List ℕ) (reply : Reply) (n : �
   pub made-length : n ≡ length (take n after)
   made-length = sym (length-take-le n after made-room)
 
-  pub made-opens : ((named : ℕ → Bool) × (faultOf named (take n after) ≡ [])) × (rootOf (take n after) ≡ r)
-  made-opens =
-      let whole : take n after ≡ map = rw (made .size, made .bytes) (take-append-seam map (drop (length map) out)) in
-      rw whole ((_, built-opens (recordsOf s) r (made .within)), built-root (recordsOf s) r (made .within))
+  whole : take n after ≡ map
+  whole = rw (made .size, made .bytes) (take-append-seam map (drop (length map) out))
+
+  pub made-opens : (named : ℕ → Bool) × (faultOf named (take n after) ≡ [])
+  made-opens = rw whole (_, built-opens (recordsOf s) r (made .within))
+
+  pub made-root : r ≡ rootOf (take n after)
+  made-root = rw whole (sym (built-root (recordsOf s) r (made .within)))

@@ -1,20 +1,17 @@
 // The listing program: reads a root's X, Y, Z, k and d and a zone sheet from standard input, builds the zone map, and writes it as text.
 
 ghost use mathlib.Core.Path.{_≡_};
-ghost use mathlib.Core.Bool.{Bool, true};
+ghost use mathlib.Core.Bool.{Bool};
 ghost use mathlib.Core.List.{[]};
-ghost use Prim.Native.Nat.{ℕ, _+_, _≤_, _^_};
+ghost use Prim.Native.Nat.{ℕ, _≤_};
 ghost use lib.ListN.{length};
-ghost use Rattle.cube.specs.Limits.{inLimits};
-ghost use Rattle.zonemap.specs.Opening.{rootOf, sizeOf, faultOf};
-use building::Reply;
+ghost use Rattle.zonemap.specs.Opening.{rootOf, faultOf};
 use cube::Root;
-use zonemap::Leaf;
+use replies::Reply;
+use zonemap::Met;
 
-// Where the sheet begins in the input, and where the leaves begin in a map.
+// Where the sheet begins in the input.
 const SHEET_FROM: usize = 14;
-
-const LEAVES_FROM: usize = 19;
 
 fn main() {
     // One byte more than the most that is taken, so that a longer input shows.
@@ -46,7 +43,7 @@ fn list(s: &[u8])
 {
     let root = root_of(s);
     let mut map = [0u8; 65536];
-    let reply = building::build(
+    match building::build(
         &s[SHEET_FROM..],
         root.x,
         root.y,
@@ -54,20 +51,14 @@ fn list(s: &[u8])
         root.k,
         root.d,
         &mut map,
-    );
-    let Reply::Done(n) = reply else {
-        refuse(reply.code(), reply.number());
-        return;
-    };
-    answered(&map[..n], root);
-}
-
-// Writes a map of this root that opens, whichever faces its leaves may name.
-fn answered(map: &[u8], root: Root)
-    requires { ⌜ ((named : ℕ → Bool) × (faultOf named (now map) ≡ [])) ⌝ ∗ ⌜ rootOf (now map) ≡ root ⌝ }
-{
-    head(root, ((map.len() - LEAVES_FROM) / 3) as i64);
-    leaves(map, root);
+    ) {
+        Reply::Done(n) => {
+            leaves(&map[..n], root);
+        }
+        Reply::Refused(why) => {
+            refuse(why.code(), why.number());
+        }
+    }
 }
 
 // Writes the first line: the root, the depth and the number of leaves.
@@ -83,25 +74,26 @@ fn head(root: Root, leaves: i64) {
     );
 }
 
-// Writes a line a leaf; three bytes are a leaf. The place of a leaf is the sum of 8^(d - level) over the earlier leaves.
+// Writes a map of this root that opens, whichever faces its leaves name: the first line, then one line per leaf.
 fn leaves(map: &[u8], root: Root)
-    requires { ⌜ ((named : ℕ → Bool) × (faultOf named (now map) ≡ [])) ⌝ ∗ ⌜ rootOf (now map) ≡ root ⌝ }
+    requires { ⌜ ((named : ℕ → Bool) × (faultOf named (now map) ≡ [])) ⌝ ∗ ⌜ root ≡ rootOf (now map) ⌝ }
 {
+    let count = zonemap::leaf_count(map);
+    head(root, count as i64);
     let mut place = 0;
-    let mut at = LEAVES_FROM;
-    while at < map.len() {
-        place = leaf(root, place, zonemap::leaf_at(map, at));
-        at += 3;
+    let mut i = 0;
+    while i < count {
+        let met = zonemap::meet(map, root, i, place);
+        leaf(met);
+        place = met.next;
+        i += 1;
     }
 }
 
-// Writes the leaf at a place, and answers the place after it.
-fn leaf(root: Root, place: u32, leaf: Leaf) -> u32
-    requires { ⌜ inLimits root ≡ true ⌝ ∗ ⌜ leaf .level ≤ root .d ⌝ ∗ ⌜ place + sizeOf (root .d) leaf ≤ 8 ^ root .d ⌝ }
-    ensures { λ r. ⌜ r ≡ place + sizeOf (root .d) leaf ⌝ }
-{
-    let next = place + zonemap::eight_to(root.d - leaf.level);
-    let cube = root.cube_at(place, leaf.level);
+// Writes the line of a leaf: its level, the low corner of its cube, its class and its face.
+fn leaf(met: Met) {
+    let leaf = met.leaf;
+    let cube = met.cube;
     line(
         leaf.level as i64,
         cube.x as i64,
@@ -110,7 +102,6 @@ fn leaf(root: Root, place: u32, leaf: Leaf) -> u32
         leaf.class as i64,
         leaf.face as i64,
     );
-    next
 }
 
 // Writes a line of six numbers.

@@ -1,12 +1,14 @@
 -- Each leaf of a map that opens: its bytes are in the map, its level is one that the root has, and its place ends in the root.
-use mathlib.Core.Path.{_≡_, sym, _∙_}
+use mathlib.Core.Path.{_≡_, refl, sym, _∙_}
 use mathlib.Core.Bool.{Bool, true}
 use mathlib.Core.List.{List, [], _∷_}
 use Prim.Native.Nat.{ℕ, zero, suc, _+_, _-_, _*_, _/_, _^_, _≤_, _<_}
+use native.Mathlib.Nat.{zero-lt-suc, one-le-pow}
 use native.Mathlib.Omega.{arith}
+use lib.IntN.{pos}
 use lib.ListN.{length, getD}
-use mir.Syntax.{w32}
-use mir.Val.{Fits}
+use mir.Syntax.{w32, w64}
+use mir.Val.{Fits, SFits}
 use Rattle.cube.specs.declared.Root.{Root}
 use Rattle.cube.specs.declared.Cube.{Cube}
 use Rattle.cube.specs.Limits.{inLimits}
@@ -17,7 +19,7 @@ use Rattle.zonemap.specs.declared.Met.{Met}
 use Rattle.zonemap.specs.Opening.{rootOf, leafIn, leavesOf, sizeOf, faultOf}
 use Rattle.zonemap.specs.Leaves.{placeAt, nowhere, nthLeaf, nthPlace, nthCube}
 use Rattle.zonemap.proofs.Powers.{power-below}
-use Rattle.zonemap.proofs.Runs.{Fine, opens-run, run-at, good-level, good-place}
+use Rattle.zonemap.proofs.Runs.{Fine, opens-run, run-at, run-end, good-level, good-place}
 use Rattle.zonemap.proofs.Finding.{leaves-count, leaf-bytes, opens-parts, opens-sizes}
 
 -- the place of the next leaf
@@ -30,7 +32,34 @@ place-on d (suc i) (l ∷ ls) h = let z : suc i + 1 ≡ suc (i + 1) = omega arit
 pub count-is : (map : List ℕ) → (length map - 19) / 3 ≡ length (leavesOf map)
 count-is map = sym (leaves-count map ((length map - 19) / 3) 19)
 
--- n is the number of the leaf, l what `leaf_at` returned, and `place` its place
+pub open-long : (map : List ℕ) → ((named : ℕ → Bool) × (faultOf named map ≡ [])) → 19 ≤ length map
+open-long map opens = opens-sizes (opens .0) map (opens .1) .0
+
+-- each leaf has at least one smallest cube, so that there are not more than 8^d
+few : (d : ℕ) (ls : List Leaf) → length ls ≤ placeAt d (length ls) ls
+unfolding placeAt
+few d [] = omega arith
+few d (l ∷ ls) = omega (arith, few d ls, one-le-pow (d - l .level) 8 (zero-lt-suc 7))
+
+pub open-few : (map : List ℕ) → ((named : ℕ → Bool) × (faultOf named map ≡ [])) → (n : ℕ) → n ≡ length (leavesOf map) → SFits w64 (pos n)
+open-few map opens n e =
+    let d = rootOf map .d in
+    let end = run-end (Fine (opens .0) d) d 0 (8 ^ d) (leavesOf map) (opens-run (opens .0) d 0 19 (leavesOf map) (opens-parts (opens .0) map (opens .1) .1)) in
+    record { sfits = omega (arith, few d (leavesOf map), end, power-below d (limits-sizes (rootOf map) (opens-sizes (opens .0) map (opens .1) .2) .1)) }
+
+pub among-leaves : (map : List ℕ) (n i : ℕ) → n ≡ length (leavesOf map) → i < n → i < length (leavesOf map)
+among-leaves map n i e h = omega arith
+
+-- a walk starts at place 0
+pub first-place : (map : List ℕ) → 0 ≡ nthPlace map 0
+unfolding placeAt
+first-place map = refl
+
+-- and goes on with the place after each leaf
+pub next-place : (map : List ℕ) (i : ℕ) (met : Met) → met ≡ record { leaf = nthLeaf map i; cube = nthCube map i; next = nthPlace map (i + 1) } → met .next ≡ nthPlace map (i + 1)
+next-place map i met e = rw e
+
+-- i is the number of the leaf, l what `leaf_at` returned, and `place` its place
 module _ (map : List ℕ) (opens : (named : ℕ → Bool) × (faultOf named map ≡ [])) (root : Root) (is : root ≡ rootOf map) (i : ℕ) (among : i < length (leavesOf map)) where
   pub met-room : 19 + 3 * i + 3 ≤ length map
   met-room = omega (arith, count-is map, opens-sizes (opens .0) map (opens .1) .0)

@@ -1,37 +1,45 @@
--- `listing::leaves` is safe and ends: the leaves that are left run on from `place`.
-use Rattle.listing.proofs.Opened.{Left, left-start, left-level, left-room, left-on}
-use borrow.Author.Needs.{needs}
-use native.Mathlib.Omega.{arith}
+-- `listing::leaves` is safe and ends: a walk over a map that opens knows the place of each leaf.
+use mathlib.Core.Path.{_≡_}
 use Prim.Native.Nat.{_-_}
-use lib.ListN.{length}
+use native.Mathlib.Omega.{arith}
+use Rattle.zonemap.specs.Leaves.{nthPlace}
+use Rattle.zonemap.proofs.Meeting.{open-long, open-few, among-leaves, first-place, next-place}
+use borrow.Author.Needs.{needs}
 use Rattle.listing.proofs.leaves.Statement.{statement}
 use Rattle.listing.proofs.leaves.Tie as tie
 
 abbrev Inv-loop : tie.InvT-loop
-Inv-loop map root place₀ at₀ place at = Left map root place at
+Inv-loop map root count place₀ i₀ place i = place ≡ nthPlace map i
 
 abbrev μ-loop : tie.MeasureT-loop
-μ-loop map root place₀ at₀ place at = length map - at
+μ-loop map root count place₀ i₀ place i = count - i
+
+leaf-count-requires : tie.Need-leaf-count-requires Inv-loop μ-loop
+leaf-count-requires c κs = search (needs, open-long)
+
+cast-head : tie.Need-cast-head Inv-loop μ-loop
+cast-head c = search (needs, open-few)
+
+head-requires : tie.Need-head-requires Inv-loop μ-loop
+head-requires c κs = search needs
 
 loop-holds : tie.Need-loop-holds Inv-loop μ-loop
-loop-holds c = left-start _ (c .before .pre .0) _ (c .before .pre .1)
+loop-holds c = search (needs, first-place)
 
-leaf-at-requires : tie.Need-leaf-at-requires Inv-loop μ-loop
-leaf-at-requires c κs = omega (arith, c .loop-test .taken, c .before .loop .inv .beat, c .before .loop .inv .whole)
+meet-requires : tie.Need-meet-requires Inv-loop μ-loop
+meet-requires c κs = search (needs, among-leaves)
 
 leaf-requires : tie.Need-leaf-requires Inv-loop μ-loop
-leaf-requires c κs =
-    (c .before .before .loop .inv .within, (left-level _ _ _ _ (c .before .before .loop .inv) (c .before .loop-test .taken) _ (c .leaf-at .ensures), left-room _ _ _ _ (c .before .before .loop .inv) (c .before .loop-test .taken) _ (c .leaf-at .ensures)))
+leaf-requires c κs = search needs
 
-add-at : tie.Need-add-at Inv-loop μ-loop
-add-at c = record { fits = omega (arith, c .before .before .loop-test .taken) }
+add-i : tie.Need-add-i Inv-loop μ-loop
+add-i c = search needs
 
 loop-less : tie.Need-loop-less Inv-loop μ-loop
 loop-less c = omega (arith, c .before .before .loop-test .taken)
 
 loop-again : tie.Need-loop-again Inv-loop μ-loop
-loop-again c =
-    left-on _ _ _ _ (c .before .before .before .loop .inv) (c .before .before .loop-test .taken) _ (c .before .leaf-at .ensures) _ (c .leaf .ensures)
+loop-again c = search (needs, next-place)
 
 returns : tie.Need-returns Inv-loop μ-loop
 returns c = search needs
@@ -42,10 +50,13 @@ leaves-spec =
     (tie.spec
     Inv-loop
     μ-loop
+    leaf-count-requires
+    cast-head
+    head-requires
     loop-holds
-    leaf-at-requires
+    meet-requires
     leaf-requires
-    add-at
+    add-i
     loop-less
     loop-again
     returns)

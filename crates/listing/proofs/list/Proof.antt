@@ -1,5 +1,5 @@
--- `listing::list` meets its contract: a map that building answers opens.
-use Rattle.listing.proofs.Made.{made-room, made-length, made-opens}
+-- `listing::list` meets its contract: a map that building returns opens.
+use Rattle.listing.proofs.Made.{made-room, made-length, made-opens, made-root}
 use borrow.Author.Needs.{needs}
 use Rattle.listing.proofs.list.Statement.{statement}
 use Rattle.listing.proofs.list.Tie as tie
@@ -22,8 +22,20 @@ slice-aggregate-build c = search needs
 build-requires : tie.Need-build-requires
 build-requires c κs = search needs
 
-enum-known-reply : tie.Need-enum-known-reply
-enum-known-reply c = search needs
+enum-known-n : tie.Need-enum-known-n
+enum-known-n c = search needs
+
+array-share-prefix-map : tie.Need-array-share-prefix-map
+array-share-prefix-map c = search (needs, made-room)
+
+slice-aggregate-leaves : tie.Need-slice-aggregate-leaves
+slice-aggregate-leaves c = search (needs, made-length)
+
+leaves-requires : tie.Need-leaves-requires
+leaves-requires c κs = (made-opens _ (c .before .before .before .before .before .before .before .before .before .before .before .root-of .result) _ _ _ _ (search needs) (search needs) (search needs) (c .before .before .before .before .before .build .ensures) (c .before .before .n .given .1), made-root _ (c .before .before .before .before .before .before .before .before .before .before .before .root-of .result) _ _ _ _ (search needs) (search needs) (search needs) (c .before .before .before .before .before .build .ensures) (c .before .before .n .given .1))
+
+enum-known-why : tie.Need-enum-known-why
+enum-known-why c = search needs
 
 code-requires : tie.Need-code-requires
 code-requires c κs = search needs
@@ -36,18 +48,6 @@ refuse-requires c κs = search needs
 
 returns : tie.Need-returns
 returns c = search needs
-
-array-share-prefix-map : tie.Need-array-share-prefix-map
-array-share-prefix-map c =
-    made-room _ (c .before .before .before .before .before .before .before .before .before .before .root-of .result) _ _ _ _ (search needs) (search needs) (search needs) (c .before .before .before .before .build .ensures) (c .before .reply .given .1)
-
-slice-aggregate-answered : tie.Need-slice-aggregate-answered
-slice-aggregate-answered c =
-    made-length _ (c .before .before .before .before .before .before .before .before .before .before .before .root-of .result) _ _ _ _ (search needs) (search needs) (search needs) (c .before .before .before .before .before .build .ensures) (c .before .before .reply .given .1)
-
-answered-requires : tie.Need-answered-requires
-answered-requires c κs =
-    made-opens _ (c .before .before .before .before .before .before .before .before .before .before .before .root-of .result) _ _ _ _ (search needs) (search needs) (search needs) (c .before .before .before .before .before .build .ensures) (c .before .before .reply .given .1)
 
 returns-2 : tie.Need-returns-2
 returns-2 c = search needs
@@ -62,12 +62,13 @@ list-spec =
     part-build-end
     slice-aggregate-build
     build-requires
-    enum-known-reply
+    enum-known-n
+    array-share-prefix-map
+    slice-aggregate-leaves
+    leaves-requires
+    enum-known-why
     code-requires
     number-requires
     refuse-requires
     returns
-    array-share-prefix-map
-    slice-aggregate-answered
-    answered-requires
     returns-2)

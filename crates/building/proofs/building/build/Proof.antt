@@ -1,6 +1,5 @@
 -- `building::building::build` meets its contract: the sheet's own replies come first.
 use native.Mathlib.Omega.{arith}
-use mathlib.Core.Path.{sym, _∙_}
 use mir.Facts.{toZ-ofZ}
 use Rattle.sheet.proofs.Good.{records-few, good-count, good-some}
 use Rattle.building.proofs.Outcomes.{bad-sheet, good-sheet}

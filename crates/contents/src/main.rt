@@ -1,4 +1,5 @@
-// Says what a zone sheet holds: reads a sheet from standard input and writes a line a record, or `refused code number`.
+// Says what a zone sheet holds: reads a sheet from standard input and writes one line per record, as `3 at 13: difference 0 2` for record 3 at
+// byte 13 of the sheet, or `refused code number`.
 
 fn main() {
     // A sheet whose length agrees has at most 65,537 bytes. One byte more than that disagrees, however many follow.
@@ -28,12 +29,20 @@ fn records(s: &[u8]) {
         let sheet::Read::Found(r, next) = c.read(s) else {
             return;
         };
-        let _number = io::print_decimal(1, n);
+        heading(n, c.at);
         record(r);
         end();
         n += 1;
         c = next;
     }
+}
+
+// A record's number and its byte offset in the sheet.
+fn heading(n: u64, at: usize) {
+    let _number = io::print_decimal(1, n);
+    let _at = io::write_all(1, b" at");
+    number(at as u64);
+    let _colon = io::write_all(1, b":");
 }
 
 // A record's kind and what follows it.

@@ -30,8 +30,8 @@ enum-told c = search needs
 returns : tie.Need-returns Inv-loop μ-loop
 returns c = search needs
 
-print-decimal-requires : tie.Need-print-decimal-requires Inv-loop μ-loop
-print-decimal-requires c κs = search needs
+heading-requires : tie.Need-heading-requires Inv-loop μ-loop
+heading-requires c κs = search needs
 
 record-requires : tie.Need-record-requires Inv-loop μ-loop
 record-requires c κs = search needs
@@ -62,7 +62,7 @@ records-spec =
     enum-known-r
     enum-told
     returns
-    print-decimal-requires
+    heading-requires
     record-requires
     end-requires
     add-n

@@ -1,4 +1,4 @@
-//! Checks the sheet of the step room, x at most 2 and y at most 2, builds its map, opens it as a panel does, and looks points up.
+//! Checks the sheet of the step room (x at most 2 and y at most 2), builds its map, opens it as a panel does, and looks points up.
 use zone::{Refusal, Root};
 
 const SHEET: &[u8] = include_bytes!("../../examples/step-room.sheet");
@@ -8,19 +8,9 @@ const ROOT: Root = Root {
     d: 1,
 };
 
-/// The map of a sheet. The first call has no buffer and is told how long the map is.
-fn map_of(sheet: &[u8], root: Root) -> Result<Vec<u8>, Refusal> {
-    let mut map = Vec::new();
-    if let Err(Refusal::Short { needed }) = zone::build(sheet, root, &mut map) {
-        map.resize(needed, 0);
-    }
-    zone::build(sheet, root, &mut map)?;
-    Ok(map)
-}
-
 fn main() -> Result<(), Refusal> {
     println!("the sheet has {} records", zone::check(SHEET)?);
-    let map = map_of(SHEET, ROOT)?;
+    let map = zone::build_vec(SHEET, ROOT)?;
     println!("the map has {} bytes", map.len());
     println!("it opens, with {} leaves", zone::open(&map)?);
     for point in [[0, 0, 0], [3, 0, 0], [2, 2, 0]] {

@@ -1,5 +1,10 @@
-//! Zone maps: checking a zone sheet, building its map, opening a map, and looking a point up in it. All calls are proved, for all
-//! bytes and numbers, to answer by the rules of document 01; this crate makes their replies Rust values.
+//! Zone maps: check a zone sheet, build its map, open a map, and look a point up in it. Each call is proved, for all bytes and numbers,
+//! to follow the rules of document 01; this crate turns the replies into Rust values.
+//!
+//! The library has no global state, so any number of threads may call it at the same time, on the same sheet and map too.
+//!
+//! The crate links `libzone.a`. If the environment variable `ZONE_LIB_DIR` is set while the crate is built, it is the full path of the
+//! folder that has the archive; otherwise the archive is the one in `target/` of this repository.
 mod ffi;
 mod refusal;
 
@@ -14,12 +19,13 @@ pub struct Root {
     pub d: u8,
 }
 
-/// Where a point lies.
+/// Where a point is. A later version may have more variants: treat one that you do not know as [`Answer::Undecided`].
 #[derive(Clone, Copy, PartialEq, Eq, Debug)]
+#[non_exhaustive]
 pub enum Answer {
     Outside = 0,
     Inside = 1,
-    /// The bounds could not tell: ask the guest.
+    /// The bounds cannot tell: ask the guest.
     Undecided = 2,
 }
 
@@ -31,25 +37,40 @@ fn number(reply: ZoneReply) -> Result<usize, Refusal> {
     }
 }
 
-/// Checks a sheet by itself and returns the number of its records. The other calls that take a sheet refuse it for the same
-/// reasons; over some root it may still be refused by [`Refusal::OverRoot`].
+/// Checks a sheet, as [`build`] and [`lookup`] do before anything else, and returns the number of its records. The bounds of a sheet
+/// that is good here may still be too large over some root ([`Refusal::OverRoot`]).
 pub fn check(sheet: &[u8]) -> Result<usize, Refusal> {
     number(ffi::check(sheet))
 }
 
-/// Builds the zone map of a sheet at the start of `out` and returns its length; later bytes stay. A refusal leaves all bytes of
-/// `out` as they were, and [`Refusal::Short`] has the length that is needed.
+/// Builds the zone map of a sheet at the start of `out`, and returns the map's length. The bytes of `out` after the map stay as they
+/// were, and a refusal leaves all of `out` as it was. [`Refusal::Short`] has the number of bytes needed.
 pub fn build(sheet: &[u8], root: Root, out: &mut [u8]) -> Result<usize, Refusal> {
     number(ffi::build(sheet, root, out))
 }
 
-/// Opens a zone map by itself, whatever sheet it is of, and returns the number of its leaves. All bytes of `map` are the map. A
-/// terminal leaf may name any record here; [`lookup`] also refuses a leaf that names no face of its sheet.
+/// Builds the zone map of a sheet into a vector of the map's own length, which may reach 3 GB at depth 10.
+///
+/// It calls [`build`] twice, the first time without a buffer, to learn the length. So the cubes are counted twice and written once: it
+/// took 1.25 to 1.36 times as long as a [`build`] into a buffer that was there (the rooms of `examples/`, on Arm).
+pub fn build_vec(sheet: &[u8], root: Root) -> Result<Vec<u8>, Refusal> {
+    let needed = match build(sheet, root, &mut []) {
+        Err(Refusal::Short { needed }) => needed,
+        // No map has no bytes, so this is a refusal.
+        other => return other.map(|_| Vec::new()),
+    };
+    let mut map = vec![0; needed];
+    build(sheet, root, &mut map)?;
+    Ok(map)
+}
+
+/// Opens a zone map without its sheet, and returns the number of its leaves. The map is all of `map`, not a part of it. A terminal leaf
+/// may name any record here; [`lookup`], which has the sheet, also refuses a leaf that names no face of it.
 pub fn open(map: &[u8]) -> Result<usize, Refusal> {
     number(ffi::open(map))
 }
 
-/// Looks a point up in a zone map of a sheet. All bytes of `map` are the map.
+/// Looks a point up in a zone map, with the sheet that the map was built from. The map is all of `map`, not a part of it.
 pub fn lookup(sheet: &[u8], map: &[u8], point: [i32; 3]) -> Result<Answer, Refusal> {
     let reply = ffi::lookup(sheet, map, point);
     match (reply.code, reply.number) {

@@ -1,38 +1,46 @@
 //! Why a call refuses.
 use std::fmt::{Display, Formatter, Result};
 
-/// A refusal of document 01, with its number. What it is the number or the offset of is the first at fault.
+/// Why a call refuses, with document 01's code and number. The variants stand in the order of test: a call returns the first that
+/// applies. Where several records or leaves are at fault, the number is that of the first.
+///
+/// A later version may have more variants, so a `match` needs an arm for the rest: treat it as a refusal.
 #[derive(Clone, Copy, PartialEq, Eq, Debug)]
+#[non_exhaustive]
 pub enum Refusal {
-    /// 1: the sheet has under 3 bytes, or its length disagrees.
+    /// 1, of [`check`](crate::check), [`build`](crate::build) and [`lookup`](crate::lookup): the sheet has fewer than 3 bytes, or its
+    /// length is not the one that it says.
     SheetLength,
-    /// 2: the sheet's version is not 1.
+    /// 2, of the same calls: the sheet's version is not 1.
     SheetVersion,
-    /// 3: a record runs over the end, has an unknown kind or a wrong count, or is the 257th.
+    /// 3, of the same calls: a record runs over the end, has an unknown kind or a wrong count, or is the 257th. With its offset in the
+    /// sheet.
     Record { offset: usize },
-    /// 4: an operand is not an earlier record, or is of the wrong sort.
+    /// 4, of the same calls: an operand is not an earlier record, or is of the wrong sort. With the record's number.
     Operand { record: usize },
-    /// 5: there are no records, or the last is not logical.
+    /// 5, of the same calls: there are no records, or the last is not logical. With the number of records.
     Solid { records: usize },
-    /// 6, of building: root or depth out of limits.
+    /// 6, of [`build`](crate::build): the root or the depth is out of limits.
     Limits,
-    /// 7: a record's bounds over the root pass 2^60.
-    OverRoot { record: usize },
-    /// 8, of building: the buffer is shorter than the map.
-    Short { needed: usize },
-    /// 9, of opening and looking up: the map does not open. Of looking up also: a terminal leaf names a record that is not a face
-    /// of the sheet.
+    /// 9, of [`open`](crate::open) and [`lookup`](crate::lookup): the map does not open or, from a lookup only, a terminal leaf names a
+    /// record that is not a face of the sheet. With the offset in the map, which is 0 for the length, 4 for the version, 5 for the root
+    /// or the depth, the first byte of a bad leaf, or the map's length if the leaves stop short.
     Map { offset: usize },
-    /// 10, of looking up: the point is not in the root, its high planes left out.
-    NotInRoot,
-    /// 11, of building: a record's bounds over a smaller cube pass 2^60.
+    /// 7, of [`build`](crate::build) and [`lookup`](crate::lookup): a record's bounds over the root pass 2^60. With the record's number.
+    OverRoot { record: usize },
+    /// 11, of [`build`](crate::build): a record's bounds over a smaller cube pass 2^60, which no input brings about. With the record's
+    /// number.
     OverSmaller { record: usize },
-    /// A code that document 01 does not have. The library gives none; it is kept here so that it would be seen.
+    /// 8, of [`build`](crate::build): the buffer is shorter than the map. With the number of bytes needed.
+    Short { needed: usize },
+    /// 10, of [`lookup`](crate::lookup): the point is not in the map's root, the high planes left out.
+    NotInRoot,
+    /// A code that this crate does not know. The library that it was made for returns none.
     Unknown { code: u32, number: u64 },
 }
 
 impl Refusal {
-    /// The refusal of a code other than 0. Numbers are lengths, offsets and counts, which fit a usize as the library is for 64 bits.
+    /// The refusal of a code other than 0. Numbers are lengths, offsets and counts; they fit a usize, since the library is for 64 bits.
     pub(crate) fn new(code: u32, number: u64) -> Refusal {
         use Refusal::*;
         let n = number as usize;
@@ -43,11 +51,11 @@ impl Refusal {
             4 => Operand { record: n },
             5 => Solid { records: n },
             6 => Limits,
-            7 => OverRoot { record: n },
-            8 => Short { needed: n },
             9 => Map { offset: n },
-            10 => NotInRoot,
+            7 => OverRoot { record: n },
             11 => OverSmaller { record: n },
+            8 => Short { needed: n },
+            10 => NotInRoot,
             _ => Unknown { code, number },
         }
     }
@@ -62,11 +70,11 @@ impl Refusal {
             Operand { .. } => 4,
             Solid { .. } => 5,
             Limits => 6,
-            OverRoot { .. } => 7,
-            Short { .. } => 8,
             Map { .. } => 9,
-            NotInRoot => 10,
+            OverRoot { .. } => 7,
             OverSmaller { .. } => 11,
+            Short { .. } => 8,
+            NotInRoot => 10,
             Unknown { code, .. } => code,
         }
     }
@@ -79,10 +87,10 @@ impl Refusal {
             Record { offset: n }
             | Operand { record: n }
             | Solid { records: n }
-            | OverRoot { record: n }
-            | Short { needed: n }
             | Map { offset: n }
-            | OverSmaller { record: n } => n as u64,
+            | OverRoot { record: n }
+            | OverSmaller { record: n }
+            | Short { needed: n } => n as u64,
             Unknown { number, .. } => number,
         }
     }
@@ -92,7 +100,7 @@ impl Display for Refusal {
     fn fmt(&self, f: &mut Formatter) -> Result {
         use Refusal::*;
         match self {
-            SheetLength => write!(f, "the sheet has under 3 bytes, or its length disagrees"),
+            SheetLength => write!(f, "the sheet has fewer than 3 bytes, or its length is not the one that it says"),
             SheetVersion => write!(f, "the sheet's version is not 1"),
             Record { offset } => write!(
                 f,
@@ -105,20 +113,20 @@ impl Display for Refusal {
             Solid { records: 0 } => write!(f, "the sheet has no records"),
             Solid { records } => write!(f, "the last of the sheet's {records} records is not logical"),
             Limits => write!(f, "the root or the depth is out of limits"),
-            OverRoot { record } => write!(f, "the bounds of record {record} over the root pass 2^60"),
-            Short { needed } => write!(f, "the map needs a buffer of {needed} bytes"),
-            Map { offset: 0 } => write!(f, "the map's length is wrong"),
+            Map { offset: 0 } => write!(f, "the map's length is not the one that it says"),
             Map { offset: 4 } => write!(f, "the map's version is not 1"),
             Map { offset: 5 } => write!(f, "the map's root or depth is out of limits"),
             Map { offset } => write!(
                 f,
                 "the map's leaf at byte {offset} is bad, by itself or for the sheet of a lookup, or the leaves stop short there"
             ),
-            NotInRoot => write!(f, "the point is not in the map's root"),
+            OverRoot { record } => write!(f, "the bounds of record {record} over the root pass 2^60"),
             OverSmaller { record } => {
                 write!(f, "the bounds of record {record} over a smaller cube pass 2^60")
             }
-            Unknown { code, number } => write!(f, "unknown reply {code} with {number}"),
+            Short { needed } => write!(f, "the map needs a buffer of {needed} bytes"),
+            NotInRoot => write!(f, "the point is not in the map's root"),
+            Unknown { code, number } => write!(f, "unknown code {code} with {number}"),
         }
     }
 }

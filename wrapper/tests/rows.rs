@@ -1,5 +1,5 @@
 //! Document 01's rows through the safe calls: the step room, its lookups, and refusals of all calls.
-use zone::{build, check, lookup, open, Answer, Refusal, Root};
+use zone::{build, build_vec, check, lookup, open, Answer, Refusal, Root};
 
 const SHEET: &[u8] = include_bytes!("../../examples/step-room.sheet");
 
@@ -54,6 +54,42 @@ fn an_empty_buffer_is_told_the_length() {
         build(SHEET, root(2), &mut []),
         Err(Refusal::Short { needed: 85 })
     );
+}
+
+#[test]
+fn a_vector_has_the_length_of_the_map() {
+    assert_eq!(build_vec(SHEET, root(1)), Ok(map()));
+    let deeper = build_vec(SHEET, root(2)).unwrap();
+    assert_eq!((deeper.len(), open(&deeper)), (85, Ok(22)));
+}
+
+#[test]
+fn a_vector_is_refused_as_a_buffer_is() {
+    assert_eq!(build_vec(&[0, 1, 2], root(1)), Err(Refusal::SheetVersion));
+    assert_eq!(build_vec(SHEET, root(3)), Err(Refusal::Limits));
+    let passed = [0, 17, 1, 1, 2, 2, 8, 0, 3, 7, 1, 0, 3, 5, 2, 0, 2, 16, 3];
+    let corner = [1048575, 0, 0];
+    assert_eq!(
+        build_vec(&passed, Root { corner, k: 0, d: 0 }),
+        Err(Refusal::OverRoot { record: 3 })
+    );
+}
+
+#[test]
+fn calls_at_the_same_time_return_the_same() {
+    let map = map();
+    std::thread::scope(|scope| {
+        for _ in 0..8 {
+            scope.spawn(|| {
+                for _ in 0..1000 {
+                    assert_eq!(check(SHEET), Ok(8));
+                    assert_eq!(build_vec(SHEET, root(1)).as_ref(), Ok(&map));
+                    assert_eq!(open(&map), Ok(8));
+                    assert_eq!(lookup(SHEET, &map, [2, 0, 0]), Ok(Answer::Inside));
+                }
+            });
+        }
+    });
 }
 
 #[test]

@@ -40,7 +40,7 @@ struct Build<'a> {
     cubes: usize,
 }
 
-/// Puts the limit to all records over the root; the error is the first record that passes it.
+/// Tests the limit for all records over the root; the error is the first record that passes it.
 pub fn limited_over_root(records: &[Record], root: &Root) -> Result<(), usize> {
     let mut bounds = vec![Interval::default(); records.len()];
     let mut states = vec![State::default(); records.len()];
@@ -85,13 +85,13 @@ impl Build<'_> {
     }
 }
 
-/// A zone map, and how many cubes were coloured for it.
+/// A zone map, and the number of cubes that were coloured for it.
 pub struct Map {
     pub bytes: Vec<u8>,
     pub cubes: usize,
 }
 
-/// The map of a sheet, or the refusal. Its vector grows as it needs, so there is no reply 8.
+/// The map of a sheet, or the refusal. Its vector grows as needed, so there is no reply 8.
 pub fn build(sheet: &[u8], root: &Root) -> Result<Map, Refusal> {
     let records = parse(sheet)?;
     if !root.is_within_limits() {

@@ -24,7 +24,7 @@ impl Interval {
         Interval::new(self.low - other.high, self.high - other.low).limited()
     }
 
-    /// Where one of the four products does not fit an i64, an end is past the limit, as all four lie between the ends.
+    /// If one of the four products does not fit an i64, an end is past the limit, since all four lie between the ends.
     fn product(self, other: Interval) -> Option<Interval> {
         let a = self.low.checked_mul(other.low)?;
         let b = self.low.checked_mul(other.high)?;

@@ -1,7 +1,7 @@
 //! A zone sheet under construction, from faces and shapes.
 use std::collections::HashMap;
 
-/// Records under construction. Each call answers a record's number, and a record that is already there is used again.
+/// Records under construction. Each call returns a record's number, and a record that is already there is used again.
 #[derive(Default)]
 pub struct Sheet {
     bytes: Vec<u8>,

@@ -1,4 +1,4 @@
-//! The proved library's calls, with replies by code and number as the baseline has them.
+//! The proved library's calls, with replies by code and number as in the baseline.
 use crate::baseline::Root;
 use crate::records::Refusal;
 
@@ -6,7 +6,7 @@ fn by_number(why: zone::Refusal) -> Refusal {
     (why.code(), why.number())
 }
 
-/// Builds into the lent buffer and answers the map's length.
+/// Builds into the lent buffer and returns the map's length.
 pub fn build(
     sheet: &[u8],
     &Root { corner, k, d }: &Root,
@@ -15,7 +15,7 @@ pub fn build(
     zone::build(sheet, zone::Root { corner, k, d }, out).map_err(by_number)
 }
 
-/// Document 01's answer for a point: 0 outside, 1 inside, 2 undecided.
+/// Document 01's number for a point: 0 outside, 1 inside, 2 undecided.
 pub fn lookup(sheet: &[u8], map: &[u8], point: [i32; 3]) -> Result<u64, Refusal> {
     zone::lookup(sheet, map, point)
         .map(|answer| answer as u64)

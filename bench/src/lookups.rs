@@ -90,7 +90,7 @@ fn damaged_sheet(sheet: &[u8], numbers: &mut Numbers) -> Vec<u8> {
     bytes
 }
 
-/// How often each answer and each refusal was given.
+/// How often each answer and each refusal was returned.
 #[derive(Default)]
 struct Counts {
     answers: [usize; 3],
@@ -118,7 +118,7 @@ impl Counts {
     }
 }
 
-/// Compares the answers for points of a map, as many as pass over so many leaves; where it is small, also with bytes damaged.
+/// Compares the answers for points of a map, until the lookups have passed over this many leaves; for a small map also with damaged bytes.
 fn compare(case: &Case, map: &[u8], counts: &mut Counts) {
     let mut numbers = Numbers(case.records as u64);
     let places = places(map);
@@ -141,7 +141,7 @@ fn timed_points(root: &Root) -> [[i32; 3]; 16] {
     })
 }
 
-/// A call that looks the next of some points up, time after time.
+/// A call that looks up the next of some points each time.
 fn in_turn<'a>(
     lookup: impl Fn([i32; 3]) -> Result<u64, (u32, u64)> + 'a,
     points: &'a [[i32; 3]],
@@ -185,7 +185,7 @@ pub fn speed() {
         compare(case, map, &mut counts);
     }
     counts.print();
-    println!("looking up: nanoseconds of processor time a leaf of the map, median of {RUNS} runs (least)");
+    println!("looking up: nanoseconds of processor time per leaf of the map, median of {RUNS} runs (least)");
     println!("records depth  leaves        plain Rust             library  library / plain Rust");
     for (map, case) in &timed {
         row(case, map);

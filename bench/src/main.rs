@@ -1,5 +1,5 @@
 //! Times building and looking up by the proved library beside plain Rust programs, and measures its stack.
-//! usage: bench [build] [lookup] [stack], all three where none is named; bench rooms FILE..
+//! usage: bench [build] [lookup] [stack], all three if none is named; bench rooms FILE..
 mod baseline;
 mod clock;
 mod colour;
@@ -30,7 +30,7 @@ fn main() {
     }
 }
 
-/// The part of the measure that a word names.
+/// The measurement that a word names.
 fn named(word: &str) -> fn() {
     match word {
         "build" => speed,
@@ -48,7 +48,7 @@ fn leaves(map: &[u8]) -> usize {
 }
 
 fn speed() {
-    println!("building: nanoseconds of processor time a cube, median of {RUNS} runs (least)");
+    println!("building: nanoseconds of processor time per cube, median of {RUNS} runs (least)");
     println!("records   cubes  leaves            baseline             library  library / baseline");
     for Case {
         records,
@@ -59,7 +59,7 @@ fn speed() {
         let map = baseline::build(sheet, root).expect("the sheet is good");
         let mut out = vec![0; map.bytes.len()];
         assert_eq!(library::build(sheet, root, &mut out), Ok(map.bytes.len()));
-        assert!(out == map.bytes, "the library's map is another");
+        assert!(out == map.bytes, "the library's map differs");
         let [plain, proved] = interleaved([
             &mut || _ = black_box(baseline::build(black_box(sheet), root)),
             &mut || _ = black_box(library::build(black_box(sheet), root, &mut out)),
@@ -100,7 +100,7 @@ fn stack() {
     let mut reply = Ok(0);
     let proved = stack::used(|| reply = library::build(&sheet, &root, &mut out));
     assert_eq!(reply, Ok(map.bytes.len()));
-    assert!(out == map.bytes, "the library's map is another");
+    assert!(out == map.bytes, "the library's map differs");
     println!("the library's build: {proved} bytes of stack");
     println!(
         "the library's lookup: {} bytes of stack",
@@ -108,7 +108,7 @@ fn stack() {
     );
 }
 
-/// Prints the leaves of a room's map by class; the file is what the listing program reads.
+/// Prints the leaves of a room's map by class; the file is one that the listing program reads.
 fn room(path: &str) {
     let bytes = std::fs::read(path).expect("a file that can be read");
     let Some((head, sheet)) = bytes.split_first_chunk::<14>() else {

@@ -27,7 +27,7 @@ impl Record {
         matches!(self, Face(_) | Both(..) | Either(..) | Complement(_))
     }
 
-    /// The record at the start of some bytes, and how many of them it takes.
+    /// The record at the start of some bytes, and the number of bytes it takes.
     fn read(bytes: &[u8]) -> Option<(Record, usize)> {
         use Record::*;
         let count = *bytes.first()? as usize;

@@ -1,4 +1,4 @@
-//! The baseline of looking up: a plain program that opens a map in one pass over its leaves, and answers by the leaf that holds the point.
+//! The baseline of looking up: a plain program that opens a map in one pass over its leaves, and decides by the leaf that holds the point.
 use crate::baseline::{limited_over_root, satisfies, Root};
 use crate::records::{parse, Record, Refusal};
 
@@ -42,7 +42,7 @@ fn is_good([level, class, face]: Leaf, faces: &[bool; 256], d: u8) -> bool {
         }
 }
 
-/// The leaf that holds a place, or the offset of the first fault of the leaves. The last leaf whose place is not past it holds it.
+/// The leaf that holds a place, or the offset of the first fault of the leaves. It is the last leaf that starts at or before the place.
 fn open(leaves: &[u8], faces: &[bool; 256], d: u8, wanted: u32) -> Result<Leaf, usize> {
     let (leaves, _) = leaves.as_chunks::<3>();
     let end = 1u32 << (3 * d);
@@ -99,7 +99,7 @@ fn faces(records: &[Record]) -> [bool; 256] {
     faces
 }
 
-/// Document 01's answer for a point: 0 outside, 1 inside, 2 undecided.
+/// Document 01's number for a point: 0 outside, 1 inside, 2 undecided.
 pub fn lookup(sheet: &[u8], map: &[u8], point: [i32; 3]) -> Result<u64, Refusal> {
     let records = parse(sheet)?;
     let bad = |at: usize| (9, at as u64);

@@ -10,8 +10,9 @@ pub struct Case {
     pub root: Root,
 }
 
-/// A part of a room takes at most so many records, but for the first box; a roof can fill any number from so many on.
+/// The most records that a part of a room takes, apart from the first box.
 const MOST_OF_A_PART: usize = 14;
+/// The fewest records that a roof can take; it can take any number from this on.
 const LEAST_OF_A_ROOF: usize = 13;
 
 const FLOOR: i32 = 80;
@@ -65,7 +66,7 @@ fn room(s: &mut Sheet, i: i32, solid: u8) -> u8 {
     s.either(solid, next)
 }
 
-/// Cuts the solid by slanting planes, of four records or of five with a complement, until there are exactly so many records.
+/// Cuts the solid by slanting planes until there are exactly this many records. A plane takes four of them, or five with a complement.
 fn roof(s: &mut Sheet, mut solid: u8, records: usize) -> u8 {
     let (y, z) = (s.coordinate(1), s.coordinate(2));
     let slant = s.sum(y, z);
@@ -84,7 +85,7 @@ fn roof(s: &mut Sheet, mut solid: u8, records: usize) -> u8 {
     solid
 }
 
-/// The case of a sheet that was made to have so many records, over a root at the origin.
+/// The case of a sheet that was made to have this many records, over a root at the origin.
 fn finished(s: Sheet, records: usize, k: u8, d: u8) -> Case {
     assert_eq!(s.count(), records);
     Case {
@@ -98,7 +99,7 @@ fn finished(s: Sheet, records: usize, k: u8, d: u8) -> Case {
     }
 }
 
-/// As many rooms with their parts as fit in so many records, under a roof that takes the rest.
+/// As many rooms with their parts as fit in this many records, under a roof that takes the rest.
 fn corridor(records: usize, k: u8, d: u8) -> Case {
     let mut s = Sheet::default();
     let mut solid = space(&mut s, 0);
@@ -121,8 +122,8 @@ pub fn corridors() -> [Case; 3] {
     ]
 }
 
-/// A quarter of a round hall, whose wall is two cylinders a few units apart, so that a map of it has as many leaves as it is deep. With
-/// more records than the wall has, a room stands in it, whose roof takes the rest.
+/// A quarter of a round hall. Its wall is two cylinders a few units apart, so that the number of leaves grows with the depth. If there are
+/// more records than the wall needs, a room stands in the hall, and its roof takes the rest.
 fn hall(records: usize, d: u8) -> Case {
     let mut s = Sheet::default();
     let (outer, inner) = (s.cylinder(0, 0, 5000), s.cylinder(0, 0, 4984));

@@ -1,11 +1,11 @@
-//! How much stack a call uses: the stack below the caller is painted, the call is made, and what is no longer paint is measured.
+//! How much stack a call uses: the stack below the caller is painted, the call is made, and the part that is no longer paint is measured.
 use std::hint::black_box;
 
 /// A call that uses more than this is not measured.
 const PAINTED: usize = 1 << 20;
 const STACK: usize = 4 * PAINTED;
 
-/// Paints the stack below its caller and answers the lowest painted address.
+/// Paints the stack below its caller and returns the lowest painted address.
 #[inline(never)]
 fn paint(colour: u8) -> usize {
     let mut area = [0u8; PAINTED];

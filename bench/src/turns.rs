@@ -1,4 +1,4 @@
-//! Times several ways to do a thing in turns, so that what slows the machine for a while slows all of them.
+//! Times several ways to do the same thing in turns, so that whatever slows the machine for a while slows all of them.
 use crate::clock;
 use std::time::Duration;
 
@@ -22,7 +22,7 @@ pub struct Times {
 }
 
 impl Times {
-    /// How many times as long others are, by the medians and by the least.
+    /// How many times as long the others took, by the medians and by the least.
     pub fn ratios(&self, others: &Times) -> [f64; 2] {
         [(self.median, others.median), (self.least, others.least)]
             .map(|(one, other)| other.as_secs_f64() / one.as_secs_f64())
@@ -49,7 +49,7 @@ pub fn interleaved<const N: usize>(mut calls: [&mut dyn FnMut(); N]) -> [Times; 
     })
 }
 
-/// The nanoseconds of one of so many things that took a time together.
+/// The nanoseconds for each of some things that together took this time.
 pub fn each(time: Duration, count: usize) -> f64 {
     time.as_nanos() as f64 / count as f64
 }

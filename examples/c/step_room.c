@@ -1,4 +1,4 @@
-/* Checks the sheet of the step room, x at most 2 and y at most 2, builds its map, opens it as a panel does, and looks points up in it. */
+/* Checks the sheet of the step room (x at most 2 and y at most 2), builds its map, opens it as a panel does, and looks points up in it. */
 #include "zone.h"
 #include <stdio.h>
 
@@ -17,14 +17,14 @@ static const char *why(uint32_t code) {
     case ZONE_SHEET_VERSION: return "the sheet's version is not 1";
     case ZONE_RECORD: return "the sheet's record at this offset is bad";
     case ZONE_OPERAND: return "an operand of this record is bad";
-    case ZONE_SOLID: return "the last of so many records is not logical";
-    case ZONE_LIMITS: return "root or depth is out of limits";
-    case ZONE_OVER_ROOT: return "the bounds of this record over the root pass 2^60";
-    case ZONE_SHORT: return "the map needs a buffer of so many bytes";
+    case ZONE_SOLID: return "the sheet has this many records, and the last is not logical";
+    case ZONE_LIMITS: return "the root or the depth is out of limits";
     case ZONE_MAP: return "the map is bad at this offset";
-    case ZONE_NOT_IN_ROOT: return "not in the root";
+    case ZONE_OVER_ROOT: return "the bounds of this record over the root pass 2^60";
     case ZONE_OVER_SMALLER: return "the bounds of this record over a smaller cube pass 2^60";
-    default: return "unknown code";
+    case ZONE_SHORT: return "the map needs a buffer of this many bytes";
+    case ZONE_NOT_IN_ROOT: return "not in the root";
+    default: return "a code of a later version";
     }
 }
 
@@ -32,7 +32,7 @@ static void print_refusal(ZoneReply reply) {
     printf("refused by %u with %llu, %s\n", reply.code, (unsigned long long)reply.number, why(reply.code));
 }
 
-/* Prints the number that a call gives, or why it refuses, and returns whether it is done. */
+/* Prints the number that a call returns, or why it refuses. Returns whether the call is done. */
 static int told(const char *before, ZoneReply reply, const char *after) {
     if (reply.code == ZONE_DONE)
         printf("%s %llu %s\n", before, (unsigned long long)reply.number, after);
@@ -41,7 +41,7 @@ static int told(const char *before, ZoneReply reply, const char *after) {
     return reply.code == ZONE_DONE;
 }
 
-/* Looks a point up, says where it lies, and returns the code. */
+/* Looks a point up, prints where it is, and returns the code. */
 static uint32_t look(const uint8_t *map, size_t map_len, int32_t x, int32_t y, int32_t z) {
     static const char *const words[] = {"outside", "inside", "undecided, ask the guest"};
     ZoneReply reply = zone_lookup(sheet, sizeof sheet, map, map_len, x, y, z);

@@ -1,6 +1,5 @@
 /* Calls at the edges of what zone.h promises: no bytes, a byte too few, a map that lies in the buffer of its sheet, and a leaf that
-   names no face.
-   Prints a line for each that is answered otherwise, and exits with 1 if there is one. */
+   names no face. Prints one line per call that returns something else, and exits with 1 if there is one. */
 #include "zone.h"
 #include <stdio.h>
 
@@ -59,7 +58,7 @@ static void side_by_side(void) {
     is("all numbers at their greatest", zone_build(bytes, sheet_len, INT32_MAX, INT32_MAX, INT32_MAX, 255, 255, map, 43), ZONE_LIMITS, 0);
 }
 
-/* The second leaf names record 7, which is no face: only a lookup has the sheet to tell by. */
+/* The second leaf names record 7, which is not a face. Only a lookup has the sheet, and can tell. */
 static void no_face(void) {
     uint8_t *map = bytes + sheet_len;
     map[24] = 7;

@@ -1,5 +1,6 @@
-/* How much stack the calls use: the stack below is painted, a call is made, and what is no longer paint is measured. The header asks a
-   caller for 16 KB. The sheet is one point, as six faces, so that one cube or a few are gray at each level: building goes down to level 10. */
+/* How much stack the calls use: the stack below is painted, a call is made, and the part that is no longer paint is measured. The header
+   asks a caller for 16 KB. The solid is one point, made of six faces. So one cube or a few are gray at each level, and building goes down
+   to level 10. */
 #include "zone.h"
 #include <stdio.h>
 
@@ -8,7 +9,7 @@
 #define PAINT 0xA5
 
 static const uint8_t sheet[] = {
-    0,  75, 1,                                                    /* how many bytes follow, version */
+    0,  75, 1,                                                    /* the number of bytes that follow, version */
     1,  2,  1, 3,  1, 4,                                          /* 0 to 2: x, y, z */
     5,  1,  0, 0,  1, 85,                                         /* 3: the constant 341 */
     3,  6,  0, 3,  3, 6,  3, 0,                                   /* 4 and 5: x - 341, 341 - x */
@@ -21,7 +22,7 @@ static const uint8_t sheet[] = {
 
 static uint8_t map[65536];
 
-/* The painted bytes, which belong to nobody once they are painted: so they are volatile, and the address is kept as a number. */
+/* The lowest painted byte. To the compiler the painted bytes belong to nobody, so they are volatile and the address is kept as a number. */
 static size_t lowest;
 
 __attribute__((noinline)) static void paint(void) {
@@ -31,7 +32,7 @@ __attribute__((noinline)) static void paint(void) {
     lowest = (size_t)&area[0];
 }
 
-/* How many bytes at the top of the painted ones are no longer paint. */
+/* The number of bytes at the top of the painted area that are no longer paint. */
 __attribute__((noinline)) static size_t used(void) {
     size_t clean = 0;
     while (clean < PAINTED && ((const volatile uint8_t *)lowest)[clean] == PAINT)
@@ -59,7 +60,7 @@ int main(void) {
     size_t looking_up = used();
     if (checked.code != ZONE_DONE || built.code != ZONE_DONE || opened.code != ZONE_DONE || found.code != ZONE_DONE ||
         found.number != ZONE_UNDECIDED) {
-        printf("the sheet is not as it was meant: %u, %u, %u, %u\n", checked.code, built.code, opened.code, found.code);
+        printf("the sheet is not as it should be: %u, %u, %u, %u\n", checked.code, built.code, opened.code, found.code);
         return 1;
     }
     return !(is_small("zone_check", checking) & is_small("zone_build", building) & is_small("zone_open", opening) &

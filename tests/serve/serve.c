@@ -1,8 +1,8 @@
-/* A server for tests: it calls the library for each request on standard input and writes what came of it to standard output.
+/* A server for tests: it calls the library for each request on standard input, and writes the outcome to standard output.
 
-   Each slice that it lends lies against pages that nobody may touch, its last byte before one or its first byte after one, and what is
-   only to be read lies in pages that nobody may write. A byte read or written outside a slice, or a sheet or a map that is written to,
-   stops the server. Numbers of requests and replies are little-endian, as on the machines it is built for.
+   Each slice that it lends lies against a page that nobody may touch: its last byte before one, or its first byte after one. Sheets and
+   maps lie in pages that nobody may write. A byte that is read or written outside a slice, or a write to a sheet or a map, stops the
+   server. Numbers of requests and replies are little-endian, as on the machines it is built for.
 
    check:  'c', placing, sheet
            -> code (32 bits), number (64 bits), whether the sheet is as it was (a byte)
@@ -19,7 +19,7 @@
 
 #define LARGEST ((size_t)1 << 26)
 #define MOST_POINTS 4096
-/* A request that takes longer stops the server: every input gets an answer. The largest takes a minute under the emulator. */
+/* A request that takes longer stops the server, since every call has to return. The largest takes a minute under the emulator. */
 #define MOST_SECONDS 300
 /* No page of these machines is larger. */
 #define PAGE ((size_t)65536)
@@ -41,7 +41,7 @@ enum { SHEET_FIRST = 1, SECOND_FIRST = 2, NULL_IF_EMPTY = 4 };
 
 enum { AFTER_END = 0, BEFORE_START = 1, INTO_SHEET = 2, KINDS_OF_TRESPASS = 3 };
 
-/* Pages between two that nobody may touch, and a slice that is lent in them. */
+/* Pages between two that nobody may touch, with the slice that is lent from them. */
 typedef struct Room {
     uint8_t *pages;
     uint8_t *slice;
@@ -58,7 +58,7 @@ static void stop_if(int wrong, int status) {
         _exit(status);
 }
 
-/* Reads so many bytes. Answers 0 if there are no more at all; it stops if there are only some. */
+/* Reads this many bytes. Returns 0 if the input has ended before the first of them, and stops the server if it ends after that. */
 static int get(void *to, size_t length) {
     size_t done = 0;
     while (done < length) {
@@ -134,13 +134,13 @@ static void lend(Room *room, uint8_t *copy, int first, int null_if_empty) {
     allow(room, READING);
 }
 
-/* Takes it back, and answers whether its bytes are as they were. */
+/* Takes a sheet or a map back, and returns whether its bytes are as they were. */
 static uint8_t take_back(const Room *room, const uint8_t *copy) {
     allow(room, READING_AND_WRITING);
     return room->length == 0 || memcmp(room->slice, copy, room->length) == 0;
 }
 
-/* Gives out bytes that no map has but by chance: the least byte of each step of a xorshift generator. */
+/* Fills the buffer with bytes that a map has only by chance: the lowest byte of each step of a xorshift generator. */
 static void fill(const Room *room, uint64_t seed) {
     for (size_t i = 0; i < room->length; i++) {
         seed ^= seed << 13;
@@ -155,7 +155,7 @@ static void put_reply(ZoneReply reply) {
     put(&reply.number, sizeof reply.number);
 }
 
-/* A call that takes one slice, which is placed by this bit of the placing. */
+/* A call that takes one slice. `first` is the bit of the placing that says where the slice lies. */
 static void test(Room *room, uint8_t *copy, int first, ZoneReply (*call)(const uint8_t *, size_t)) {
     int placing = get_byte();
     lend(room, copy, placing & first, placing & NULL_IF_EMPTY);
@@ -197,7 +197,7 @@ static void lookup(void) {
     put(&same, 1);
 }
 
-/* Goes where no library may, with slices of 16 bytes; the byte that it answers means that nothing stopped it. */
+/* Goes where no library may, with slices of 16 bytes. The byte that it writes means that nothing stopped it. */
 static void trespass(void) {
     uint8_t which = get_byte();
     stop_if(which >= KINDS_OF_TRESPASS, 6);

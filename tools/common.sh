@@ -46,7 +46,7 @@ run_x86_64() { # PROGRAM
 
 # ---- the lock
 # Two runs of rt at once in one checkout overwrite each other's results, and can call a proved crate not proved. So a script that calls rt
-# holds the lock of the checkout meanwhile, and says so on standard error while it waits for it.
+# there holds the lock of the checkout, and says on standard error when it has to wait for it.
 #
 # The lock is a flock on the checkout's own folder, since `rt ci` removes target/. The kernel frees it when the last process that was
 # started under it has ended, however they ended: nothing is left behind. `flock . rt check` at the top of the checkout takes the same lock.
@@ -68,7 +68,7 @@ unlock() {
 }
 
 say_waiting() {
-    echo "$me: waiting for another ./run, bench/native or .ci/run in this checkout to end" >&2
+    echo "$me: waiting for another command in this checkout to end (./run, bench/native, .ci/run or flock)" >&2
 }
 
 lock_by_flock() {
@@ -76,10 +76,12 @@ lock_by_flock() {
     command -v flock >/dev/null || return
     flock -n 9 2>/dev/null && return
     say_waiting
-    flock 9 2>/dev/null
+    # In the background, so that a signal ends the wait.
+    flock 9 2>/dev/null &
+    wait $!
 }
 
-# A process by its number and the time of its start, as a number is used again. It says nothing of a process that is gone.
+# A process by its number and the time of its start, since numbers are used again. A process that is gone has no time.
 process() { # NUMBER
     started=$(sed 's/.*) //' "/proc/$1/stat" 2>/dev/null | cut -d' ' -f20)
     echo "$1-$started"
@@ -88,13 +90,16 @@ process() { # NUMBER
 lock_by_link() {
     holder=$(process $$) waiting=
     while ! ln -sn "$holder" "$top/.lock" 2>/dev/null; do
-        other=$(readlink "$top/.lock") || continue
+        if ! other=$(readlink "$top/.lock"); then
+            [ -w "$top" ] || { echo "$me: cannot write in $top" >&2 && exit 2; }
+            continue
+        fi
         if [ "$(process "${other%-*}")" = "$other" ]; then
             [ -n "$waiting" ] || say_waiting
             waiting=yes
             sleep 1
         else
-            # Only the link that was read is removed: where another script has replaced it meanwhile, that one goes back.
+            # Only the link that was read is removed. If another script has replaced it meanwhile, that one is put back.
             mv "$top/.lock" "$top/.lock.$$" 2>/dev/null || continue
             moved=$(readlink "$top/.lock.$$")
             rm -f "$top/.lock.$$"

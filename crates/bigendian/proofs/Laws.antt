@@ -1,4 +1,4 @@
--- Two bytes make a number, two such numbers one of four bytes, and a number of 32 bits is read as signed.
+-- Reading: two bytes make a number, two such numbers make one of four bytes, and 32 bits are read as a signed number.
 use mathlib.Core.Path.{_≡_, refl, ap, _∙_}
 use mathlib.Core.List.{List}
 use Prim.Native.Nat.{ℕ, zero, suc, _+_, _*_, _-_, _<_, _≤_, _^_}
@@ -12,7 +12,7 @@ use mir.Val.{SFits, toZ, ofZ}
 use mir.Facts.{toZ-ofZ, toZ-pos}
 use Rattle.bigendian.specs.Numbers.{unsignedAt, signed32}
 
--- one byte more, at the number's end
+-- one more byte, at the end of the number
 module _ (s : List ℕ) (at : ℕ) where
   pub two-bytes : 256 * getD s at 0 + getD s (at + 1) 0 ≡ unsignedAt 2 s at
   unfolding unsignedAt

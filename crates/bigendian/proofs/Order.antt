@@ -1,4 +1,4 @@
--- Which byte counts most, and what bits a negative number has: that numbers are read back as they were written (`Written`) says neither.
+-- Which byte is most significant, and which bits a negative number has. The round trip (`Written`) shows neither.
 use mathlib.Core.Path.{_≡_, refl}
 use mathlib.Core.List.{List}
 use Prim.Native.Nat.{ℕ, zero, suc, _+_, _*_, _^_, _≤_}
@@ -8,7 +8,7 @@ use lib.IntN.{pos, negsuc}
 use lib.ListN.{getD}
 use Rattle.bigendian.specs.Numbers.{unsignedAt, unsigned32}
 
--- one byte is its number, and of some bytes after one another the first count 256 times as much for each of the others
+-- one byte is its own number, and leading bytes are multiplied by 256 for each byte that follows them
 pub one-byte : (s : List ℕ) (at : ℕ) → unsignedAt 1 s at ≡ getD s at 0
 unfolding unsignedAt
 one-byte s at = rw (add-zero at) (omega arith)
@@ -21,7 +21,7 @@ first-count-most n (suc m) s at =
     let p : 256 ^ suc m ≡ 256 * 256 ^ m = omega arith in
     rw (add-suc n m, first-count-most n m s at, e, p) (omega arith)
 
--- two's complement: a number that is not negative is its bits, and the bits of -n are n less than 2^32
+-- two's complement: a number that is not negative is its own bits, and the bits of -n are 2^32 - n
 pub plain-bits : (n : ℕ) → unsigned32 (pos n) ≡ n
 unfolding unsigned32
 plain-bits n = refl

@@ -1,4 +1,4 @@
--- A number's bytes as they are written, and read back; a negative number's bits count down from 2^32 - 1.
+-- The bytes of a number, written and read back; the bits of negative numbers count down from 2^32 - 1.
 use mathlib.Core.Path.{_≡_, refl, ap, _∙_}
 use mathlib.Core.Bool.{true, false, true≢false}
 use mathlib.Core.List.{List, [], _∷_, _++_, append-assoc}
@@ -85,7 +85,7 @@ module _ (n : ℤ) (f : SFits w32 n) (t : ltZ (toZ w32 (ofZ w32 n)) (pos 0) ≡ 
   pub plain-unsigned : natAbs (toZ w32 (ofZ w32 n)) ≡ unsigned32 n
   plain-unsigned = rw (toZ-ofZ f) (plain n f (rw (toZ-ofZ f) at t) .1)
 
--- ---- put_i32: u is what `unsigned` answered
+-- ---- put_i32: u is what `unsigned` returned
 pub signed-stored : (out out′ : List ℕ) (at u : ℕ) (n : ℤ) → SFits w32 n → u ≡ unsigned32 (toZ w32 (ofZ w32 n)) → out′ ≡ sets out at (bytesOf 4 u) → out′ ≡ sets out at (bytesOf 4 (unsigned32 n))
 signed-stored out out′ at u n f e h = rw (rw (toZ-ofZ f) at e) at h
 

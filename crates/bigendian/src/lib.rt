@@ -1,4 +1,4 @@
-// Numbers of several bytes, as sheets and maps have them: big-endian, and two's complement where signed.
+// Numbers of several bytes, as in sheets and maps: big-endian, and two's complement if signed.
 
 ghost use mathlib.Core.Path.{_≡_};
 ghost use Prim.Native.Nat.{_+_, _≤_};
@@ -6,7 +6,7 @@ ghost use lib.ListN.{length};
 ghost use lib.Seq.{sets};
 ghost use Rattle.bigendian.specs.Numbers.{unsignedAt, signed32, signedAt, bytesOf, unsigned32};
 
-// The number of the two bytes of s from `at` on.
+// The number in the two bytes of s from `at` on.
 pub fn u16_at(s: &[u8], at: usize) -> u16
     requires { ⌜ at + 2 ≤ length (now s) ⌝ }
     ensures { λ r. ⌜ r ≡ unsignedAt 2 (now (s .entry)) at ⌝ }
@@ -16,7 +16,7 @@ pub fn u16_at(s: &[u8], at: usize) -> u16
     256 * high as u16 + low as u16
 }
 
-// The number of the four bytes of s from `at` on.
+// The number in the four bytes of s from `at` on.
 pub fn u32_at(s: &[u8], at: usize) -> u32
     requires { ⌜ at + 4 ≤ length (now s) ⌝ }
     ensures { λ r. ⌜ r ≡ unsignedAt 4 (now (s .entry)) at ⌝ }
@@ -26,7 +26,7 @@ pub fn u32_at(s: &[u8], at: usize) -> u32
     65536 * high as u32 + low as u32
 }
 
-// The signed number whose bits are those of u.
+// The signed number with the bits of u.
 fn signed(u: u32) -> i32
     ensures { λ r. ⌜ r ≡ signed32 u ⌝ }
 {
@@ -36,7 +36,7 @@ fn signed(u: u32) -> i32
     -1 - (4294967295 - u) as i32
 }
 
-// The signed number of the four bytes of s from `at` on.
+// The signed number in the four bytes of s from `at` on.
 pub fn i32_at(s: &[u8], at: usize) -> i32
     requires { ⌜ at + 4 ≤ length (now s) ⌝ }
     ensures { λ r. ⌜ r ≡ signedAt (now (s .entry)) at ⌝ }
@@ -55,7 +55,7 @@ pub fn put_u32(out: &mut [u8], at: usize, n: u32)
     out[at + 3] = (n % 256) as u8;
 }
 
-// The number whose bits are those of n.
+// The unsigned number with the bits of n.
 fn unsigned(n: i32) -> u32
     ensures { λ r. ⌜ r ≡ unsigned32 n ⌝ }
 {

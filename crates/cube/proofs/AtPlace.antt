@@ -1,4 +1,4 @@
--- A point of the root is in the cube at a place exactly when its place is one of the cube's.
+-- A point of the root is in the cube at a place exactly when the point's place is one of the cube's places.
 use mathlib.Core.Path.{_≡_, refl}
 use mathlib.Core.Bool.{true}
 use Prim.Native.Nat.{ℕ, zero, suc, _+_, _-_, _*_, _/_, _%_, _^_, _≤_, _<_}
@@ -18,7 +18,7 @@ use Rattle.cube.proofs.Cubes.{at-sizes, side-is}
 use Rattle.cube.proofs.Places.{axis-between, axis-holds, gap-added, gap-below, axes, point-x, point-y, point-z}
 
 -- ---- counted in smallest cubes
--- the 2^n smallest cubes from a on have x among them
+-- x is among the 2^n smallest cubes from a on
 abbrev Within : ℕ → ℕ → ℕ → Type 0
 Within n a x = (a ≤ x) × (x < a + 2 ^ n)
 
@@ -49,7 +49,7 @@ corner-within axis (suc n) (suc d) c p h l u =
     let f = corner-half axis d p in
     (omega (arith, i .0), omega (arith, i .1))
 
--- one axis of a point: half of it is that of the halves, and its last bit is that axis's bit of the child number
+-- `pick` takes one axis of a point: it commutes with halving, and its last bit is the bit of that axis in the child number
 module _ (axis : ℕ) (pick : ℕ → ℕ → ℕ → ℕ) (halved : (x y z : ℕ) → pick (x / 2) (y / 2) (z / 2) ≡ pick x y z / 2) (bit : (x y z : ℕ) → half axis (x % 2 + 2 * (y % 2) + 4 * (z % 2)) ≡ pick x y z % 2) where
   -- the corner of a point's place is the point
   pub corner-place : (d x y z : ℕ) → pick x y z < 2 ^ d → cornerOf axis d (placeBy d x y z) ≡ pick x y z
@@ -61,7 +61,7 @@ module _ (axis : ℕ) (pick : ℕ → ℕ → ℕ → ℕ) (halved : (x y z : �
       let i = halved x y z in
       rw (q, m, bit x y z) (omega (arith, corner-place d (x / 2) (y / 2) (z / 2) (omega arith)))
 
-  -- where the place is one of a cube's, the axis is in the cube
+  -- if the place is one of a cube's places, the axis is in the cube
   pick-within : (n d c x y z : ℕ) → n ≤ d → pick x y z < 2 ^ d → c * 8 ^ n ≤ placeBy d x y z → placeBy d x y z < c * 8 ^ n + 8 ^ n → Within n (cornerOf axis d (c * 8 ^ n)) (pick x y z)
   pick-within n d c x y z h b l u = rw (corner-place d x y z b) at (corner-within axis n d c _ h l u)
 
@@ -71,7 +71,7 @@ unfolding cornerOf placeBy
 place-corner zero p h = omega arith
 place-corner (suc d) p h = rw (corner-half 0 d p, corner-half 1 d p, corner-half 2 d p) (omega (arith, place-corner d (p / 8) (omega arith)))
 
--- where all axes of a point are in a cube, its place is one of the cube's
+-- if all axes of a point are in a cube, the point's place is one of the cube's places
 place-within : (n d c x y z : ℕ) → n ≤ d → c * 8 ^ n < 8 ^ d → Within n (cornerOf 0 d (c * 8 ^ n)) x → Within n (cornerOf 1 d (c * 8 ^ n)) y → Within n (cornerOf 2 d (c * 8 ^ n)) z →
     (c * 8 ^ n ≤ placeBy d x y z) × (placeBy d x y z < c * 8 ^ n + 8 ^ n)
 unfolding placeBy
@@ -88,7 +88,7 @@ place-within (suc n) (suc d) c x y z h l wx wy wz =
     (omega (arith, i), omega (arith, i))
 
 -- ---- counted in units
--- a coordinate against planes that are moved from the low one
+-- a coordinate against planes that lie a and a + side above `low`
 module _ (low v : ℤ) (h : low ≤ℤ v) (a side : ℕ) where
   axis-moved : a ≤ natAbs (v -ℤ low) → natAbs (v -ℤ low) < a + side → axisHolds (low +ℤ pos a) side v ≡ true
   axis-moved l u =

@@ -1,4 +1,4 @@
--- The low corner of the cube at a place: the needs of `digit` and `corner`, and the corner of a child.
+-- The low corner of the cube at a place: what the proofs of `digit` and `corner` need, and the corner of a child.
 use mathlib.Core.Path.{_≡_, refl, ap, _∙_}
 use Prim.Native.Nat.{ℕ, zero, suc, _+_, _-_, _*_, _/_, _%_, _^_, _≤_, _<_}
 use native.Mathlib.Nat.{zero-div, div-div-eq-div-mul}
@@ -28,7 +28,7 @@ corner-below axis (suc d) place = omega (arith, corner-below axis d (place / 8),
 eighths : (place i : ℕ) → place / 8 ^ i / 8 ≡ place / 8 ^ suc i
 eighths place i = let e : 8 ^ i * 8 ≡ 8 ^ suc i = omega arith in div-div-eq-div-mul place (8 ^ i) 8 ∙ ap (λ (n : ℕ). place / n) e
 
--- the invariant: c is the corner by the first d - i child numbers
+-- the invariant: c is the corner after the first d - i child numbers
 pub record Digits (axis d place c i : ℕ) : Type 0 where
   pub reach : i ≤ d
   pub deep : d ≤ 10

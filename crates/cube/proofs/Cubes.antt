@@ -1,4 +1,4 @@
--- The cubes of a root: the needs of `cube`, `child` and `cube_at`, cubes that stay near the origin, children that lie in their cube, and the child of the cube at a place.
+-- The cubes of a root: what the proofs of `cube`, `child` and `cube_at` need, that cubes stay near the origin and children lie in their cube, and the children of the cube at a place.
 use mathlib.Core.Path.{_≡_, refl, sym, ap, _∙_}
 use mathlib.Core.Bool.{true}
 use Prim.Native.Nat.{ℕ, suc, _+_, _-_, _*_, _/_, _^_, _≤_, _<_}
@@ -74,14 +74,14 @@ pub root-told : (r : Root) (side : ℕ) → SFits w32 (r .x) → SFits w32 (r .y
 unfolding rootCube
 root-told r side fx fy fz e = rw (toZ-ofZ fx, toZ-ofZ fy, toZ-ofZ fz, e)
 
--- ---- child: h is what `half_of` answered
+-- ---- child: h is what `half_of` returned
 pub step-fits : (h side : ℕ) → h < 2 → side ≤ 2 ^ 21 → Fits w32 (h * (side / 2))
 step-fits h side l s = record { fits = omega (arith, half-most h (side / 2) l) }
 
 pub step-room : (low : ℤ) (h side : ℕ) → SFits w32 low → h < 2 → natAbs low + side ≤ 2 ^ 21 → natAbs (toZ w32 (ofZ w32 low)) + h * (side / 2) ≤ 2 ^ 21
 step-room low h side f l s = rw (toZ-ofZ f) (omega (arith, half-most h (side / 2) l))
 
--- what `moved` answered, passed on
+-- the result of `moved`, passed on
 pub axis-told : (low x : ℤ) (a b : ℕ) → SFits w32 low → mag x < 2 ^ 31 → x ≡ toZ w32 (ofZ w32 low) +ℤ pos a → a ≡ b → toZ w32 (ofZ w32 x) ≡ low +ℤ pos b
 axis-told low x a b f g e h = toZ-ofZ {w = w32} (record { sfits = g }) ∙ e ∙ rw (toZ-ofZ f, h)
 
@@ -93,7 +93,7 @@ pub child-told : (q : Cube) (n : ℕ) (x y z : ℤ) → x ≡ q .x +ℤ pos (hal
 unfolding childOf
 child-told q n x y z ex ey ez = rw (ex, ey, ez)
 
--- ---- cube_at: c is what `corner` answered, u the side of a smallest cube
+-- ---- cube_at: c is what `corner` returned, u the side of a smallest cube
 module _ (r : Root) (e : inLimits r ≡ true) where
   pub at-sizes : r .d ≤ r .k
   at-sizes = limits-sizes r e .2
@@ -142,7 +142,7 @@ module _ (r : Root) (deep : r .d ≤ r .k) where
   abbrev unit : ℕ
   unit = 2 ^ (r .k - r .d)
 
-  -- a cube with n levels below it has 2^n smallest cubes a side
+  -- a cube with n levels below it is 2^n smallest cubes wide
   pub side-is : (level n : ℕ) → level + n ≡ r .d → 2 ^ (r .k - level) ≡ 2 ^ n * unit
   side-is level n e = let s : r .k - level ≡ n + (r .k - r .d) = omega arith in rw s (pow-add 2 n (r .k - r .d))
 

@@ -1,4 +1,4 @@
--- The root as a cube is the root, axis by axis: it holds the points of the root and no others.
+-- The root as a cube holds exactly the points of the root, axis by axis.
 use mathlib.Core.Path.{_≡_}
 use mathlib.Core.Bool.{true}
 use Rattle.cube.specs.declared.Root.{Root}

@@ -1,4 +1,4 @@
--- The corner of the smallest cube at a place that was made of three coordinates is, on every axis, that coordinate; the place of a corner is `place-corner` of AtPlace.
+-- The smallest cube at the place of three coordinates has its corner, on every axis, at that coordinate. The other way round is `place-corner` of AtPlace.
 use mathlib.Core.Path.{_≡_, refl}
 use Prim.Native.Nat.{ℕ, zero, suc, _^_, _<_}
 use native.Mathlib.Omega.{arith}

@@ -1,4 +1,4 @@
--- What it means that root and depth are in limits.
+-- What follows if root and depth are in limits.
 use mathlib.Core.Path.{_≡_, refl, sym}
 use mathlib.Core.Bool.{Bool, true, false, _&&_, true≢false}
 use Prim.Native.Nat.{ℕ, _+_, _≤_, _^_}
@@ -27,7 +27,7 @@ axis-planes low side e =
     let t = both (leZ (negℤ (pos (2 ^ 20))) low) (leZ (low +ℤ pos side) (pos (2 ^ 20))) e in
     (leZ-true _ _ (t .0), leZ-true _ _ (t .1))
 
--- between such planes no coordinate is far from 0
+-- an axis with such planes is near 0, as `Near` requires
 planes-near : (low : ℤ) (side : ℕ) → Planes low side → side ≤ 2 ^ 16 → natAbs low + side ≤ 2 ^ 21
 planes-near (pos n) side p h = omega (arith, ints, p .1)
 planes-near (negsuc n) side p h = omega (arith, ints, p .0)

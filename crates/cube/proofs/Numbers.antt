@@ -1,4 +1,4 @@
--- The limits of root and depth by their numbers, each on a line: a root is in limits where all hold, and nowhere else.
+-- The limits of root and depth as numbers, one per line: a root is in limits exactly if all of them hold.
 use mathlib.Core.Path.{_≡_}
 use mathlib.Core.Bool.{true, false}
 use borrow.Author.Tests.{le-leb}

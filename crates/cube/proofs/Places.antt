@@ -1,4 +1,4 @@
--- The place of a point: the needs of `place_by`, `Point::cube` and `place`, and what holds of a point of the root.
+-- The place of a point: what the proofs of `place_by`, `Point::cube` and `place` need, and what holds of a point of the root.
 use mathlib.Core.Path.{_≡_, refl, ap, _∙_}
 use mathlib.Core.Bool.{Bool, true, _&&_}
 use Prim.Native.Nat.{ℕ, zero, suc, _+_, _-_, _*_, _/_, _%_, _^_, _≤_, _<_}
@@ -28,7 +28,7 @@ place-by-below (suc d) x y z = omega (arith, place-by-below d (x / 2) (y / 2) (z
 halves : (x i : ℕ) → x / 2 ^ i / 2 ≡ x / 2 ^ suc i
 halves x i = let e : 2 ^ i * 2 ≡ 2 ^ suc i = omega arith in div-div-eq-div-mul x (2 ^ i) 2 ∙ ap (λ (n : ℕ). x / n) e
 
--- the child number where i levels follow, as `child_number` answers it
+-- the child number with i levels below it, as `child_number` returns it
 abbrev Number : ℕ → ℕ → ℕ → ℕ → ℕ
 Number x y z i = x / 2 ^ i % 2 + 2 * (y / 2 ^ i % 2) + 4 * (z / 2 ^ i % 2)
 
@@ -36,7 +36,7 @@ place-suc : (n i p x y z : ℕ) → p ≡ placeBy n (x / 2 ^ suc i) (y / 2 ^ suc
 unfolding placeBy
 place-suc n i p x y z e = rw (halves x i, halves y i, halves z i) (omega arith)
 
--- the invariant: p is the place by the first d - i levels
+-- the invariant: p is the place after the first d - i levels
 pub record Bits (d x y z p i : ℕ) : Type 0 where
   pub reach : i ≤ d
   pub deep : d ≤ 10
@@ -47,7 +47,7 @@ module _ (d x y z : ℕ) where
   unfolding placeBy
   bits-start h = record { reach = omega arith; deep = h; same = let e : d - d ≡ 0 = omega arith in rw e }
 
-  -- one level is left, so that 8 more of it fit
+  -- a level is still to come, so 8 times the place fits
   pub bits-small : (p i : ℕ) → Bits d x y z p i → 0 < i → p < 8 ^ 9
   bits-small p i b h = omega (arith, b .same, place-by-below (d - i) (x / 2 ^ i) (y / 2 ^ i) (z / 2 ^ i), pow-le-pow-right {n = 8} (omega arith) {i = d - i} {j = 9} (omega (arith, b .deep)))
 
@@ -94,7 +94,7 @@ none-below : (a : ℤ) → pos 0 ≤ℤ a → dn a ≡ 0
 none-below (pos n) h = refl
 none-below (negsuc n) h = absurd (h .le)
 
--- as far above the low one as it is, it is
+-- low + |v - low| is v
 pub gap-added : (low v : ℤ) → low ≤ℤ v → low +ℤ pos (natAbs (v -ℤ low)) ≡ v
 gap-added low v h =
     let z : dn (v -ℤ low) ≡ 0 = none-below (v -ℤ low) (omega (arith, ints, minus-is v low)) in
@@ -169,7 +169,7 @@ point-near r p i e = record {
   deep = omega arith;
 }
 
--- ---- place: x, y and z are what `steps_to` answered
+-- ---- place: x, y and z are what `steps_to` returned
 pub steps-told : (r : Root) (low v : ℤ) (n x : ℕ) → SFits w32 low → SFits w32 v → n ≡ r .k - r .d → x ≡ natAbs (toZ w32 (ofZ w32 v) -ℤ toZ w32 (ofZ w32 low)) / 2 ^ n → x ≡ stepsTo r low v
 steps-told r low v n x f g en e = rw (toZ-ofZ f, toZ-ofZ g, en) at e
 

@@ -1,4 +1,4 @@
--- The needs of `axis_fits`, `axis_holds`, `sizes_fit`, `is_within`, `holds`, `two_to`, `moved` and `steps_to`, each as it stands: the machine reads a number back from its bits.
+-- What the proofs of `axis_fits`, `axis_holds`, `sizes_fit`, `is_within`, `holds`, `two_to`, `moved` and `steps_to` need, in the form of their goals: the machine reads a number back from its bits.
 use mathlib.Core.Path.{_≡_, sym, _∙_}
 use mathlib.Core.Bool.{Bool, true, false}
 use Prim.Native.Nat.{ℕ, _+_, _*_, _/_, _%_, _≤_, _<_, _^_}
@@ -93,7 +93,7 @@ module _ (low v : ℤ) (f : SFits w32 low) (g : SFits w32 v) (h : low ≤ℤ v) 
   pub gap-steps : (n : ℕ) → natAbs (toZ w32 (ofZ w32 Gap)) / 2 ^ n ≡ natAbs (v -ℤ low) / 2 ^ n
   gap-steps n = rw gap-back
 
--- ---- holds: x, y and z are what the calls answered
+-- ---- holds: x, y and z are what the calls returned
 held-told : (low v : ℤ) (side : ℕ) (b : Bool) → SFits w32 low → SFits w32 v → b ≡ axisHolds (toZ w32 (ofZ w32 low)) side (toZ w32 (ofZ w32 v)) → axisHolds low side v ≡ b
 held-told low v side b f g e = sym (rw (toZ-ofZ f, toZ-ofZ g) at e)
 
@@ -111,7 +111,7 @@ module _ (q : Cube) (p : Point) (x : Bool) (fx : SFits w32 (q .x)) (gx : SFits w
     unfolding holdsPoint
     holds-z z h fz gz ez = rw (held-told _ _ _ _ fx gx ex, hx, held-told _ _ _ _ fy gy ey, h, held-told _ _ _ _ fz gz ez)
 
--- ---- is_within: s, x, y and z are what the calls answered
+-- ---- is_within: s, x, y and z are what the calls returned
 pub side-small : (k d : ℕ) (s : Bool) → s ≡ sizesFit k d → s ≡ true → k ≤ 16
 side-small k d s e h = sizes-are k d (sym e ∙ h) .0
 

@@ -15,7 +15,7 @@ root = record { x = pos 0; y = pos 0; z = pos 0; k = 2; d = 1 }
 abbrev at : ℕ → ℕ → ℕ → Point
 at x y z = record { x = pos x; y = pos y; z = pos z }
 
--- x counts 1, y counts 2 and z counts 4
+-- x has weight 1, y 2 and z 4
 row-x : placeOf root (at 2 0 0) ≡ 1
 unfolding placeBy placeOf
 row-x = refl
@@ -28,7 +28,7 @@ row-xz : placeOf root (at 3 1 2) ≡ 5
 unfolding placeBy placeOf
 row-xz = refl
 
--- the low planes are the root's, the high ones are not
+-- the low planes belong to the root, the high planes do not
 row-low : holdsPoint (rootCube root) (at 0 0 0) ≡ true
 unfolding axisHolds holdsPoint rootCube
 row-low = refl

@@ -1,4 +1,4 @@
--- The cubes of a root: its children, and the place of each.
+-- The cubes of a root: children, and the cube at a place.
 use Prim.Native.Nat.{ℕ, zero, suc, _+_, _-_, _*_, _/_, _%_, _^_}
 use lib.IntN.{ℤ, pos, _+ℤ_}
 use Rattle.cube.specs.declared.Root.{Root}
@@ -24,7 +24,7 @@ childOf q k =
       level = q .level + 1;
     }
 
--- The place of a cube is its child numbers on the way from the root, as digits of base 8 for d levels. This is the low corner
+-- The place of a cube is the child numbers on the path from the root to it, as d digits of base 8. This is the low corner
 -- of the cube at a place, along one axis, counted in smallest cubes.
 unfoldable pub cornerOf : ℕ → ℕ → ℕ → ℕ
 cornerOf axis zero place = 0

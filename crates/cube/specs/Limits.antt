@@ -18,7 +18,7 @@ sizesFit k d = leb k 16 && leb d 10 && leb d k
 unfoldable pub inLimits : Root → Bool
 inLimits r = sizesFit (r .k) (r .d) && axisFits (r .x) (2 ^ r .k) && axisFits (r .y) (2 ^ r .k) && axisFits (r .z) (2 ^ r .k)
 
--- the same, each limit on a line of its own
+-- the same, with one limit per line
 pub record WithinLimits (r : Root) : Type 0 where
   pub k-most : r .k ≤ 16
   pub d-most : r .d ≤ 10
@@ -30,7 +30,7 @@ pub record WithinLimits (r : Root) : Type 0 where
   pub y-most : (r .y +ℤ pos (2 ^ r .k)) ≤ℤ pos (2 ^ 20)
   pub z-most : (r .z +ℤ pos (2 ^ r .k)) ≤ℤ pos (2 ^ 20)
 
--- (Only inner contracts cite this.) A cube so near to the origin, with so many levels below it, that no sum over it wraps
+-- (Only inner contracts cite this.) The cube, with `left` levels below it, is so near the origin that no sum of its coordinates and side wraps
 pub record Near (left : ℕ) (q : Cube) : Type 0 where
   pub x : natAbs (q .x) + q .side ≤ 2 ^ 21
   pub y : natAbs (q .y) + q .side ≤ 2 ^ 21

@@ -14,7 +14,7 @@ axisHolds low side v = leZ low v && ltZ v (low +ℤ pos side)
 unfoldable pub holdsPoint : Cube → Point → Bool
 holdsPoint q p = axisHolds (q .x) (q .side) (p .x) && axisHolds (q .y) (q .side) (p .y) && axisHolds (q .z) (q .side) (p .z)
 
--- The root has a low corner X, Y, Z and side 2^k: a point is in it, high planes left out. (Written out, and not by the root as a cube, which is judged by this.)
+-- The root has a low corner X, Y, Z and side 2^k: a point is in it, high planes left out. (Written out, not defined by the root as a cube: this is what that is checked against.)
 pub record InRoot (r : Root) (p : Point) : Type 0 where
   pub x-low : r .x ≤ℤ p .x
   pub x-high : p .x <ℤ (r .x +ℤ pos (2 ^ r .k))
@@ -23,24 +23,24 @@ pub record InRoot (r : Root) (p : Point) : Type 0 where
   pub z-low : r .z ≤ℤ p .z
   pub z-high : p .z <ℤ (r .z +ℤ pos (2 ^ r .k))
 
--- a point is a cube of side 0
+-- a point as a cube of side 0
 unfoldable pub pointCube : Point → Cube
 pointCube p = record { x = p .x; y = p .y; z = p .z; side = 0; level = 0 }
 
--- the place of a smallest cube by its low corner, which is counted in smallest cubes: a child number for each level, as in `cornerOf`
+-- the place of a smallest cube, from its low corner counted in smallest cubes: one child number per level, as in `cornerOf`
 unfoldable pub placeBy : ℕ → ℕ → ℕ → ℕ → ℕ
 placeBy zero x y z = 0
 placeBy (suc d) x y z = 8 * placeBy d (x / 2) (y / 2) (z / 2) + (x % 2 + 2 * (y % 2) + 4 * (z % 2))
 
--- how many smallest cubes lie between the root's low plane and a coordinate
+-- the number of smallest cubes between the root's low plane and a coordinate
 abbrev pub stepsTo : Root → ℤ → ℤ → ℕ
 stepsTo r low v = natAbs (v -ℤ low) / 2 ^ (r .k - r .d)
 
--- the place of a point: that of the smallest cube which holds it
+-- the place of a point: the place of the smallest cube that holds it
 unfoldable pub placeOf : Root → Point → ℕ
 placeOf r p = placeBy (r .d) (stepsTo r (r .x) (p .x)) (stepsTo r (r .y) (p .y)) (stepsTo r (r .z) (p .z))
 
--- (Only laws cite this.) A closed cube lies in another: on each axis both of its planes do
+-- (Only laws cite this.) One closed cube lies in another: on each axis, both of its planes do
 pub record CubeInside (q outer : Cube) : Type 0 where
   pub x-low : outer .x ≤ℤ q .x
   pub x-high : (q .x +ℤ pos (q .side)) ≤ℤ (outer .x +ℤ pos (outer .side))

@@ -1,4 +1,4 @@
-// The root with its depth, the cubes it is split into, and its points.
+// The root and its depth, the cubes it is split into, and its points.
 
 mod points;
 
@@ -34,7 +34,7 @@ pub struct Point {
     pub z: i32,
 }
 
-// Whether both planes of an axis lie in -2^20 to 2^20. The high one is worked out in 64 bits, where no sum wraps.
+// Whether both planes of an axis lie in -2^20 to 2^20. The high one is computed in 64 bits, where the sum cannot wrap.
 fn axis_fits(low: i32, side: u32) -> bool
     ensures { λ r. ⌜ r ≡ axisFits low side ⌝ }
 {
@@ -58,7 +58,7 @@ fn two_to(n: u8) -> u32
     1u32 << n
 }
 
-// A low coordinate moved towards the high one.
+// A low coordinate plus an offset.
 fn moved(low: i32, by: u32) -> i32
     requires { ⌜ natAbs low + by ≤ 2 ^ 21 ⌝ }
     ensures { λ r. ⌜ r ≡ low +ℤ pos by ⌝ }
@@ -74,7 +74,7 @@ fn half_of(axis: u8, n: u8) -> u32
     ((n >> axis) % 2) as u32
 }
 
-// The child number that i others follow in a place.
+// The child number with i others below it in a place.
 fn digit(place: u32, i: u8) -> u8
     requires { ⌜ i < 10 ⌝ }
     ensures { λ r. ⌜ r ≡ place / 8 ^ i % 8 ⌝ }

@@ -1,4 +1,4 @@
-// Points: whether a cube holds one, and the place of one in the root.
+// Points: whether a cube holds a point, and the place of a point in the root.
 
 ghost use mathlib.Core.Path.{_≡_};
 ghost use mathlib.Core.Bool.{true};
@@ -12,14 +12,14 @@ use crate::Cube;
 use crate::Point;
 use crate::Root;
 
-// Whether a coordinate lies between two planes, the high one left out. It is worked out in 64 bits, where no sum wraps.
+// Whether a coordinate lies between two planes, the high one left out. The high plane is computed in 64 bits, where the sum cannot wrap.
 fn axis_holds(low: i32, side: u32, v: i32) -> bool
     ensures { λ r. ⌜ r ≡ axisHolds low side v ⌝ }
 {
     low <= v && (v as i64) < low as i64 + side as i64
 }
 
-// The child number of a smallest cube where i levels follow.
+// The child number of a smallest cube at the level with i levels below it.
 fn child_number(x: u32, y: u32, z: u32, i: u8) -> u32
     requires { ⌜ i < 10 ⌝ }
     ensures { λ r. ⌜ r ≡ x / 2 ^ i % 2 + 2 * (y / 2 ^ i % 2) + 4 * (z / 2 ^ i % 2) ⌝ }
@@ -27,7 +27,7 @@ fn child_number(x: u32, y: u32, z: u32, i: u8) -> u32
     (x >> i) % 2 + 2 * ((y >> i) % 2) + 4 * ((z >> i) % 2)
 }
 
-// The place of a smallest cube by its low corner.
+// The place of a smallest cube, from its low corner.
 fn place_by(x: u32, y: u32, z: u32, d: u8) -> u32
     requires { ⌜ d ≤ 10 ⌝ }
     ensures { λ r. ⌜ r ≡ placeBy d x y z ⌝ }
@@ -41,7 +41,7 @@ fn place_by(x: u32, y: u32, z: u32, d: u8) -> u32
     place
 }
 
-// How many cubes of side 2^n lie between a low plane and a coordinate.
+// The number of cubes of side 2^n between a low plane and a coordinate.
 fn steps_to(low: i32, v: i32, n: u8) -> u32
     requires { ⌜ low ≤ℤ v ⌝ ∗ ⌜ natAbs (v -ℤ low) ≤ 2 ^ 21 ⌝ ∗ ⌜ n ≤ 16 ⌝ }
     ensures { λ r. ⌜ r ≡ natAbs (v -ℤ low) / 2 ^ n ⌝ }

@@ -6,7 +6,7 @@ use Rattle.integers.specs.Least.{lesserOf, greaterOf, leastOf, greatestO
 use Rattle.integers.proofs.Order.{≤-trans, ≤-both, by-test, leZ-true, leZ-false, le-test}
 
 -- ---- of two
--- a property of both is one of the lesser and of the greater
+-- what holds of both numbers holds of the lesser and of the greater
 pub lesser-either : (P : ℤ → Type 0) (a b : ℤ) → P a → P b → P (lesserOf a b)
 unfolding lesserOf
 lesser-either P a b x y = by-test (leZ a b) (λ h. rw h x) (λ h. rw h y)

@@ -1,5 +1,5 @@
--- What the machine does with signed numbers of any width. A local holds bits, so each operand is read back from its bits, `toZ w (ofZ w a)`, and so is each result:
--- a number that fits is what it was.
+-- Signed machine arithmetic of any width. A local holds bits, so each operand and each result is read back from its bits, `toZ w (ofZ w a)`:
+-- for a number that fits, this is the number itself.
 use mathlib.Core.Path.{_≡_, _∙_}
 use mathlib.Core.Bool.{false}
 use Prim.Native.Nat.{ℕ, suc, _≤_, _<_, _^_}
@@ -28,7 +28,7 @@ module _ (w : Width) where
   pub back : (a : ℤ) → natAbs a < 2 ^ hbits w → toZ w (ofZ w a) ≡ a
   back a h = toZ-ofZ (fits a h)
 
-  -- what a callee returned, passed on or returned
+  -- a callee's result, passed on or returned
   pub again : (a b : ℤ) → a ≡ b → mag a < 2 ^ hbits w → toZ w (ofZ w a) ≡ b
   again a b e h = toZ-ofZ (record { sfits = h }) ∙ e
 
@@ -40,12 +40,12 @@ module _ (w : Width) where
     pub result-back : toZ w (ofZ w (f (toZ w (ofZ w a)) (toZ w (ofZ w b)))) ≡ f a b
     result-back = rw (toZ-ofZ fa, toZ-ofZ fb) (toZ-ofZ fr)
 
--- a number from 0 on, cast to one without a sign
+-- a number that is not negative, cast to unsigned
 pub plain-cast : (a : ℤ) → SFits w64 a → ltZ (toZ w64 (ofZ w64 a)) (pos 0) ≡ false → T (nonNeg (toZ w64 (ofZ w64 a))) × Fits w64 (natAbs (toZ w64 (ofZ w64 a)))
 plain-cast a f t = rw (toZ-ofZ f) (not-negative a (rw (toZ-ofZ f) at t), record { fits = omega (arith, f .sfits, abs-most a) })
 
--- ---- a number of 32 bits, cast to 64
--- one without a sign, added to it there
+-- ---- a 32-bit number, cast to 64 bits
+-- an unsigned number added to it after the cast
 abbrev pub wideSum : ℤ → ℕ → ℤ
 wideSum a n = toZ w64 (ofZ w64 (toZ w32 (ofZ w32 a))) +ℤ toZ w64 n
 

@@ -1,7 +1,7 @@
--- The integers by naturals, so that `omega` serves for them: `omega` reads no ℤ. An integer z is  up z - dn z,  one of the two 0.
--- Each law says a thing about integers as one about those naturals. Listed after `arith`, the ruleset `ints` has omega turn each order and equation of integers,
+-- Integers as differences of naturals, since `omega` does not read ℤ. An integer z is  up z - dn z,  where one of the two is 0.
+-- Each law restates a fact about integers as one about these naturals. Listed after `arith`, the ruleset `ints` makes omega turn each order and equation of integers,
 -- in the goal and in the hypotheses, into one of naturals; `+-is a b`, `minus-is a b`, `*-is a b`, `neg-is a` and `abs-is a` are facts, one for each
--- sum, difference, product, negation and magnitude that the goal has.
+-- sum, difference, product, negation and magnitude in the goal.
 use mathlib.Core.Path.{_≡_, refl, ap, subst}
 use mathlib.Core.Bool.{Bool, true, false, not, cond}
 use Prim.Native.Nat.{ℕ, zero, suc, _+_, _*_, _-_, _≤_, _<_}

@@ -1,4 +1,4 @@
--- Laws of the integers' order that `lib.Signed` lacks, and what its tests say.
+-- Laws of the order of the integers that `lib.Signed` lacks, and what its tests mean.
 use mathlib.Core.Path.{_≡_, refl}
 use mathlib.Core.Bool.{Bool, true, false, true≢false}
 use Prim.Native.Nat.{ℕ, zero, suc, _*_, _<_}
@@ -18,13 +18,13 @@ pub ≤-trans : (a b c : ℤ) → a ≤ℤ b → b ≤ℤ c → a ≤ℤ c
 pub ≤-both : (a b : ℤ) → a ≤ℤ b → b ≤ℤ a → a ≡ b
 ≤-both a b h k = omega (arith, ints)
 
--- what follows where a number is not negative, and where it is not positive
+-- case split: a number is not negative, or not positive
 pub by-sign : {A : Type 0} (k : ℤ) → (pos 0 ≤ℤ k → A) → (k ≤ℤ pos 0 → A) → A
 by-sign (pos n) f g = f (≤-out (pos 0) (pos n) (omega arith))
 by-sign (negsuc n) f g = g (≤-out (negsuc n) (pos 0) (omega arith))
 
 -- ---- its tests
--- what follows where a test passes, and where it fails
+-- case split: a test passes or fails
 pub by-test : {A : Type 0} (b : Bool) → (b ≡ true → A) → (b ≡ false → A) → A
 by-test true f g = f refl
 by-test false f g = g refl
@@ -54,7 +54,7 @@ le-test a b h = T-true (leZ a b) (h .le)
 pub gt-test : (a b : ℤ) → b <ℤ a → leZ a b ≡ false
 gt-test a b h = by-test (leZ a b) (λ t. clashℤ h (leZ-true a b t)) (λ t. t)
 
--- the sign, as a cast to an unsigned number asks it
+-- the sign, as a cast to unsigned requires it
 pub negative : (a : ℤ) → ltZ a (pos 0) ≡ true → T (nonNeg (negℤ a))
 negative (pos n) t = let z : ⊥ = omega (arith, ltb-true) in absurd z
 negative (negsuc n) t = tt
@@ -70,7 +70,7 @@ pub +-mono : (a b c d : ℤ) → a ≤ℤ b → c ≤ℤ d → (a +ℤ c) ≤ℤ
 pub minus-mono : (a b c d : ℤ) → a ≤ℤ b → c ≤ℤ d → (a -ℤ d) ≤ℤ (b -ℤ c)
 minus-mono a b c d h k = omega (arith, ints, minus-is a d, minus-is b c)
 
--- a factor that is not negative keeps the order, and one that is not positive turns it
+-- a factor that is not negative keeps the order, and one that is not positive reverses it
 pub *-keeps : (k a b : ℤ) → pos 0 ≤ℤ k → a ≤ℤ b → (a *ℤ k) ≤ℤ (b *ℤ k)
 *-keeps (pos n) a b s h = omega (arith, ints, *-is a (pos n), *-is b (pos n), mul-le-mul-right n (≤-in a b h))
 *-keeps (negsuc n) a b s h = absurd (s .le)
@@ -80,7 +80,7 @@ pub *-turns : (k a b : ℤ) → k ≤ℤ pos 0 → a ≤ℤ b → (b *ℤ k) ≤
 *-turns (pos (suc n)) a b s h = let z : ⊥ = omega (arith, ints) in absurd z
 *-turns (negsuc n) a b s h = omega (arith, ints, *-is a (negsuc n), *-is b (negsuc n), mul-le-mul-right (suc n) (≤-in a b h))
 
--- ---- a natural factor, which is a scale
+-- ---- a natural number as a scale factor
 pub scale-keeps : (n : ℕ) (a b : ℤ) → a ≤ℤ b → (a *ℤ pos n) ≤ℤ (b *ℤ pos n)
 scale-keeps n a b h = *-keeps (pos n) a b (≤-out (pos 0) (pos n) (omega arith)) h
 
@@ -94,14 +94,14 @@ pub above-zero : (a : ℤ) (n : ℕ) → pos 0 <ℤ a → 0 < n → pos 0 <ℤ (
 above-zero (pos a) n h k = <-out (pos 0) (pos (a * n)) (omega (arith, mul-pos {m = a} {n = n} (omega (arith, <-in (pos 0) (pos a) h)) k))
 above-zero (negsuc a) n h k = absurd (h .lt)
 
--- a number and its positive multiple are on one side of 0
+-- a number and a positive multiple of it are on the same side of 0
 pub same-sign : (a : ℤ) (n : ℕ) → 0 < n → leZ (a *ℤ pos n) (pos 0) ≡ leZ a (pos 0)
 same-sign a n h =
     by-test (leZ a (pos 0))
     (λ t. rw t (le-test (a *ℤ pos n) (pos 0) (at-most-zero a n (leZ-true a (pos 0) t))))
     (λ t. rw t (gt-test (a *ℤ pos n) (pos 0) (above-zero a n (leZ-above a (pos 0) t) h)))
 
--- a bound of n-th parts, over a scale that is m times finer
+-- a bound in n-th parts, restated on a scale that is m times finer
 pub finer-low : (a b : ℤ) (n m : ℕ) → (a *ℤ pos n) ≤ℤ b → (a *ℤ pos (n * m)) ≤ℤ (b *ℤ pos m)
 finer-low a b n m h = rw (*-assoc a (pos n) (pos m)) at (scale-keeps m (a *ℤ pos n) b h)
 

@@ -1,4 +1,4 @@
--- Powers of a whole number, as scales of numerators.
+-- Powers of a whole number, as scale factors of numerators.
 use mathlib.Core.Path.{_≡_, ap, _∙_}
 use Prim.Native.Nat.{ℕ, zero, suc, _*_, _^_}
 use native.Mathlib.Nat.{one-mul, pow-zero, pow-suc}
@@ -13,6 +13,6 @@ pub mul-pow : (n m k : ℕ) → (n * m) ^ k ≡ n ^ k * m ^ k
 mul-pow n m zero = rw (pow-zero (n * m), pow-zero n, pow-zero m)
 mul-pow n m (suc k) = rw (pow-suc (n * m) k, pow-suc n k, pow-suc m k, mul-pow n m k) (omega arith)
 
--- over no power of n a number is itself
+-- over n^0 a number is itself
 pub times-none : (a : ℤ) (n : ℕ) → a *ℤ pos (n ^ 0) ≡ a
 times-none a n = ap (λ (k : ℕ). a *ℤ pos k) (pow-zero n) ∙ times-one a

@@ -1,4 +1,4 @@
--- Laws of the integers' ring that `lib.IntN` lacks, each by `omega` over `Naturals`. A fact times a factor is handed over multiplied.
+-- Ring laws of the integers that `lib.IntN` lacks, each by `omega` over `Naturals`. A fact that is needed times a factor is passed to omega already multiplied (`scale`).
 use mathlib.Core.Path.{_≡_, sym, ap, _∙_}
 use Prim.Native.Nat.{ℕ, _*_}
 use native.Mathlib.Omega.{arith}

@@ -1,1 +1,1 @@
-// What the contracts and the proofs of other crates share, the exact whole numbers above all: see specs/ and proofs/. There is no code.
+// Definitions and laws that other crates share, mostly of exact whole numbers: see specs/ and proofs/. There is no code.

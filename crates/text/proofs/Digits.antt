@@ -1,4 +1,4 @@
--- The digits of a number: one below 10, and otherwise those of a tenth of it and one more.
+-- The digits of a number: one if it is below 10, otherwise those of a tenth of it and one more.
 use mathlib.Core.Path.{_≡_, refl, ap}
 use mathlib.Core.List.{List, [], _∷_, _++_}
 use Prim.Native.Nat.{ℕ, zero, suc, _/_, _%_, _≤_, _<_, _^_}
@@ -6,7 +6,7 @@ use native.Mathlib.Omega.{arith}
 use lib.ListN.{length, length-append}
 use Rattle.text.specs.Text.{digit, digitsOf, decimalOf}
 
--- digits, and the last one
+-- equal digits stay equal with the last one added
 then-last : (n : ℕ) (ds es : List ℕ) → ds ≡ es → ds ++ (digit (n % 10) ∷ []) ≡ es ++ (digit (n % 10) ∷ [])
 then-last n ds es e = ap (λ (fs : List ℕ). fs ++ (digit (n % 10) ∷ [])) e
 
@@ -15,7 +15,7 @@ unfolding digitsOf
 no-digits zero = refl
 no-digits (suc k) = refl
 
--- how many digits are let through does not matter if there are no more
+-- the limit on the number of digits does not matter if it is not reached
 same-digits : (k n m : ℕ) → n ≤ k → n ≤ m → digitsOf k n ≡ digitsOf m n
 unfolding digitsOf
 same-digits zero n m h g = let e : n ≡ 0 = omega arith in rw (e, no-digits m)

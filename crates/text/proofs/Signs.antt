@@ -1,4 +1,4 @@
--- A signed number by its magnitude, as `put_number` works it out: below 0 it is one more than -1 - n.
+-- A signed number by its magnitude, as `put_number` computes it: for n below 0 it is (-1 - n) + 1.
 use mathlib.Core.Path.{_≡_, refl, ap}
 use mathlib.Core.Bool.{true, false, true≢false}
 use mathlib.Core.List.{_∷_}
@@ -16,7 +16,7 @@ use Rattle.integers.proofs.Machine.{abs-most, plain-cast}
 use Rattle.text.specs.Text.{decimalOf, signedText}
 use Rattle.text.proofs.Digits.{decimal-length}
 
--- ---- a number from 0 on
+-- ---- a number that is not negative
 no-sign : (n : ℤ) → ltZ n (pos 0) ≡ false → signedText n ≡ decimalOf (natAbs n)
 unfolding signedText
 no-sign (pos k) t = refl
@@ -26,7 +26,7 @@ pub plain-text : (n : ℤ) → SFits w64 n → ltZ (toZ w64 (ofZ w64 n)) (pos 0)
 plain-text n f t = rw (toZ-ofZ f) (no-sign n (rw (toZ-ofZ f) at t))
 
 -- ---- a number below 0: -1 - n is the magnitude less one
--- -1 - n, as the machine works it out
+-- -1 - n, as the machine computes it
 abbrev pub lessOne : ℤ → ℤ
 lessOne n = toZ w64 (ofZ w64 (negsuc 0 -ℤ toZ w64 (ofZ w64 n)))
 
@@ -63,7 +63,7 @@ module _ (n : ℤ) (f : SFits w64 n) (t : ltZ (toZ w64 (ofZ w64 n)) (pos 0) ≡ 
   pub less-text : signedText n ≡ 45 ∷ decimalOf (natAbs (lessOne n) + 1)
   less-text = rw (toZ-ofZ f, toZ-ofZ (less .fits)) (less .text)
 
--- ---- a sign and 19 digits are the most
+-- ---- at most a sign and 19 digits
 pub signed-length : (n : ℤ) → SFits w64 n → length (signedText n) ≤ 20
 unfolding signedText
 signed-length (pos k) f = omega (arith, decimal-length 18 k (omega (arith, f .sfits)))

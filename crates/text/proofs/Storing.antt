@@ -1,4 +1,4 @@
--- Texts put into a buffer one after the other.
+-- Texts stored into a buffer one after the other.
 use mathlib.Core.Path.{_≡_, refl, ap, _∙_}
 use mathlib.Core.Bool.{true, false}
 use mathlib.Core.List.{List, [], _∷_, _++_}
@@ -18,11 +18,11 @@ use Rattle.text.specs.Text.{digit, decimalOf, signedText, lineOf, Puts}
 use Rattle.text.proofs.Digits.{one-digit, more-digits}
 use Rattle.text.proofs.Signs.{lessOne, plain-text, less-text, signed-length}
 
--- ---- what is put: one byte
+-- ---- one byte
 byte-put : (v at : ℕ) (d : List ℕ) → Puts (v ∷ []) at d (at + 1) (set d at v)
 byte-put v at d = record { ends = refl; bytes = refl }
 
--- two texts, the second where the first ends
+-- two texts, the second starting where the first ends
 both-put : (vs ws : List ℕ) (at r q : ℕ) (d o p : List ℕ) → Puts vs at d r o → Puts ws r o q p → Puts (vs ++ ws) at d q p
 both-put vs ws at r q d o p h k = record { ends = omega (arith, length-append vs ws, h, k); bytes = k .bytes ∙ rw (h .bytes) (sets-append d at r vs ws (h .ends)) }
 

@@ -16,7 +16,7 @@ digitsOf zero n = []
 digitsOf (suc k) zero = []
 digitsOf (suc k) (suc n) = digitsOf k (suc n / 10) ++ (digit (suc n % 10) ∷ [])
 
--- a number in decimal: the digits of a tenth of it, which are no more than n, and its last digit
+-- a number in decimal: the digits of a tenth of it, of which there are at most n, and its last digit
 unfoldable pub decimalOf : ℕ → List ℕ
 decimalOf n = digitsOf n (n / 10) ++ (digit (n % 10) ∷ [])
 
@@ -31,7 +31,7 @@ lineOf [] = 10 ∷ []
 lineOf (n ∷ []) = signedText n ++ (10 ∷ [])
 lineOf (n ∷ m ∷ ns) = signedText n ++ 32 ∷ lineOf (m ∷ ns)
 
--- the text put into a buffer at `at` ends at `end`, and the buffer is otherwise as it was before
+-- the text is stored in the buffer from `at` to `end`, and the rest of the buffer is unchanged
 pub record Puts (text : List ℕ) (at : ℕ) (before : List ℕ) (end : ℕ) (after : List ℕ) : Type 0 where
   pub ends : end ≡ at + length text
   pub bytes : after ≡ sets before at text

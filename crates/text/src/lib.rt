@@ -1,4 +1,4 @@
-// Numbers as text, built in a buffer: decimal, in ASCII. Nothing here reads or writes.
+// Numbers as text, built in a buffer: decimal, in ASCII. Nothing here does input or output.
 
 ghost use mathlib.Core.List.{[], _∷_, _++_};
 ghost use Prim.Native.Nat.{_+_, _≤_};
@@ -6,7 +6,7 @@ ghost use lib.ListN.{length};
 ghost use Rattle.io.specs.Counts.{Counts};
 ghost use Rattle.text.specs.Text.{decimalOf, signedText, lineOf, Puts};
 
-// Puts n at `at`, and answers where its digits end.
+// Stores the digits of n at `at`, and returns where they end.
 fn put_digits(out: &mut [u8], at: usize, n: u64) -> usize
     requires { ⌜ at + length (decimalOf n) ≤ length (now out) ⌝ }
     ensures { λ r. ⌜ Puts (decimalOf n) at (now (out .entry)) r (now (out .exit)) ⌝ }
@@ -20,7 +20,7 @@ fn put_digits(out: &mut [u8], at: usize, n: u64) -> usize
     last + 1
 }
 
-// Puts n with its sign at `at`, and answers where it ends: it has at most 20 bytes.
+// Stores n with its sign at `at`, at most 20 bytes, and returns where it ends.
 pub fn put_number(out: &mut [u8], at: usize, n: i64) -> usize
     requires { ⌜ at + 20 ≤ length (now out) ⌝ }
     ensures { λ r. ⌜ Puts (signedText n) at (now (out .entry)) r (now (out .exit)) ⌝ }
@@ -28,13 +28,13 @@ pub fn put_number(out: &mut [u8], at: usize, n: i64) -> usize
 {
     if n < 0 {
         out[at] = b'-';
-        // The magnitude of the least i64 is no i64, so one is taken off for the cast and put back after it.
+        // The magnitude of the least i64 is not an i64, so one is subtracted before the cast and added after it.
         return put_digits(out, at + 1, (-1 - n) as u64 + 1);
     }
     put_digits(out, at, n as u64)
 }
 
-// Puts n and the byte `end` at `at`, and answers where they end: they are at most 21 bytes.
+// Stores n and the byte `end` at `at`, at most 21 bytes, and returns where they end.
 fn put_field(out: &mut [u8], at: usize, n: i64, end: u8) -> usize
     requires { ⌜ at + 21 ≤ length (now out) ⌝ }
     ensures { λ r. ⌜ Puts (signedText n ++ (end ∷ [])) at (now (out .entry)) r (now (out .exit)) ⌝ }
@@ -45,7 +45,7 @@ fn put_field(out: &mut [u8], at: usize, n: i64, end: u8) -> usize
     to + 1
 }
 
-// Puts a line of two numbers at the start of out, and answers its length.
+// Stores a line of two numbers at the start of out, and returns its length.
 pub fn put_pair(out: &mut [u8], a: i64, b: i64) -> usize
     requires { ⌜ 42 ≤ length (now out) ⌝ }
     ensures { λ r. ⌜ Puts (lineOf (a ∷ b ∷ [])) 0 (now (out .entry)) r (now (out .exit)) ⌝ }
@@ -55,7 +55,7 @@ pub fn put_pair(out: &mut [u8], a: i64, b: i64) -> usize
     put_field(out, to, b, b'\n')
 }
 
-// Puts a line of six numbers at the start of out, and answers its length.
+// Stores a line of six numbers at the start of out, and returns its length.
 pub fn put_line(out: &mut [u8], a: i64, b: i64, c: i64, d: i64, e: i64, f: i64) -> usize
     requires { ⌜ 126 ≤ length (now out) ⌝ }
     ensures { λ r. ⌜ Puts (lineOf (a ∷ b ∷ c ∷ d ∷ e ∷ f ∷ [])) 0 (now (out .entry)) r (now (out .exit)) ⌝ }

@@ -1,17 +1,17 @@
-// Test lines: a label, a colon, the bytes of a vector in hexadecimal with spaces where they help the eye, and a line feed.
-// A heading has no colon, so that it is written as part of the label after it.
+// Test lines: a label, a colon, the bytes of a vector in hexadecimal, with spaces for legibility, and a line feed.
+// A heading has no colon, so it is printed as part of the label that follows it.
 
 ghost use Prim.Native.Nat.{_≤_, _<_};
 ghost use lib.ListN.{length};
 ghost use Rattle.io.specs.Counts.{Counts};
 
-// Of a line that was read: where the next one begins, and how many bytes its vector has.
+// Of a line that was read: where the next line begins, and the number of bytes in its vector.
 pub struct Line {
     pub next: usize,
     pub size: usize,
 }
 
-// Writes the label of the line at `at` with its colon, and puts its vector at the start of `vector`. Bytes of an earlier line may stand after it: the size says how many count.
+// Writes the label of the line at `at` with its colon, and stores its vector at the start of `vector`. Bytes after the returned size may be left over from an earlier line.
 pub fn read_line(input: &[u8], at: usize, vector: &mut [u8]) -> Line
     requires { ⌜ at < length (now input) ⌝ }
     ensures { λ r. ⌜ at < r .next ⌝ }
@@ -22,7 +22,7 @@ pub fn read_line(input: &[u8], at: usize, vector: &mut [u8]) -> Line
     put_bytes(input, digits, vector)
 }
 
-// The first place from `from` on that comes right after a byte `mark`; the end of the input where there is none.
+// The first position from `from` on that follows a byte `mark`; the end of the input if there is none.
 fn past(input: &[u8], from: usize, mark: u8) -> usize
     requires { ⌜ 0 < from ⌝ ∗ ⌜ from ≤ length (now input) ⌝ }
     ensures { λ r. ⌜ from ≤ r ⌝ }
@@ -35,8 +35,8 @@ fn past(input: &[u8], from: usize, mark: u8) -> usize
     end
 }
 
-// Puts the bytes of the digits from `from` to the end of the line at the start of `vector`, without those that it has no room for.
-// A line with no line feed was cut off by the end of the input, so it has none.
+// Stores the bytes that the digits from `from` to the end of the line spell at the start of `vector`, and drops those that do not fit.
+// A line without a line feed was cut off by the end of the input, so its vector counts as empty.
 fn put_bytes(input: &[u8], from: usize, vector: &mut [u8]) -> Line
     requires { ⌜ from ≤ length (now input) ⌝ }
     ensures { λ r. ⌜ from ≤ r .next ⌝ }
@@ -61,12 +61,12 @@ fn put_bytes(input: &[u8], from: usize, vector: &mut [u8]) -> Line
     }
 }
 
-// The byte whose digits are the second of b, and c. A letter is at least 64, and its last four bits are 9 below its worth.
+// The byte whose digits are the low digit of b and the digit c. A letter is at least 64, and its low four bits are its value less 9.
 fn joined(b: u8, c: u8) -> u8 {
     b % 16 * 16 + (c % 16 + c / 64 * 9) % 16
 }
 
-// Writes a space, the code, a space and the number. The program ends the line, since some have more to say.
+// Writes a space, the code, a space and the number. The program ends the line, since some programs print more on it.
 pub fn answer(code: u32, number: u64) {
     let _space = io::write_all(1, b" ");
     let _code = io::print_decimal(1, code as u64);

@@ -1,4 +1,4 @@
--- `bigendian::signed` meets its contract: below 2^31 the bits are the number, and from there on they count down from -1.
+-- `bigendian::signed` meets its contract: below 2^31 the bits are the number itself, and from 2^32 - 1 down they are -1, -2 and so on.
 use Rattle.bigendian.proofs.Laws.{low-half, high-fits, high-half}
 use borrow.Author.Needs.{needs}
 use Rattle.bigendian.proofs.signed.Statement.{statement}

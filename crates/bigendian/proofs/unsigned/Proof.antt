@@ -1,4 +1,4 @@
--- `bigendian::unsigned` meets its contract: a negative number's bits are counted down from the highest.
+-- `bigendian::unsigned` meets its contract: the bits of -1, -2 and so on count down from 2^32 - 1.
 use borrow.Author.Needs.{needs}
 use Rattle.bigendian.proofs.Written.{turned-fits, turned-cast, turned-most, turned-unsigned, plain-cast, plain-unsigned}
 use Rattle.bigendian.proofs.unsigned.Statement.{statement}

@@ -1,4 +1,4 @@
--- `cube::two_to` meets its contract: a side up to 2^16 loses no bit.
+-- `cube::two_to` meets its contract: shifting up to 2^16 loses no bit.
 use Rattle.cube.proofs.Planes.{shift-is}
 use borrow.Author.Needs.{needs}
 use Rattle.cube.proofs.two_to.Statement.{statement}

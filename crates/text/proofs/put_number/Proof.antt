@@ -1,4 +1,4 @@
--- `text::put_number` meets its contract: nothing is lost on the way to the magnitude.
+-- `text::put_number` meets its contract: computing the magnitude loses no bit.
 use lib.ListN.{length-set}
 use mathlib.Core.Path.{_∙_}
 use native.Mathlib.Omega.{arith}

@@ -1,4 +1,4 @@
--- `vectors::put_bytes` meets its contract: at most two digits for each byte of the vector are kept.
+-- `vectors::put_bytes` meets its contract: it keeps at most two digits per byte of the vector.
 use borrow.Author.Needs.{needs}
 use Prim.Native.Nat.{_*_, _-_, _/_, _≤_}
 use mathlib.Core.Path.{_≡_, ap, _∙_}

@@ -1,4 +1,4 @@
--- `cube::Cube::child` meets its contract: half a side more on each axis loses no bit.
+-- `cube::Cube::child` meets its contract: adding half a side on each axis loses no bit.
 use native.Mathlib.Omega.{arith}
 use Rattle.cube.proofs.Cubes.{step-fits, step-room, axis-told, product-told, child-told}
 use borrow.Author.Needs.{needs}

@@ -1,4 +1,4 @@
--- `cube::Root::place` meets its contract: no coordinate of a point of the root is far from the low plane.
+-- `cube::Root::place` meets its contract: no coordinate of a point of the root is more than 2^21 above the low plane.
 use borrow.Author.Needs.{needs}
 use Rattle.cube.proofs.Limits.{near-x, near-y, near-z}
 use Rattle.cube.proofs.Cubes.{at-sizes, at-deep, at-side}

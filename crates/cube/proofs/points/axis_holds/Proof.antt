@@ -1,4 +1,4 @@
--- `cube::points::axis_holds` meets its contract: the high plane is added in 64 bits.
+-- `cube::points::axis_holds` meets its contract: the high plane is computed in 64 bits.
 use Rattle.integers.proofs.Machine.{wide-fits, wide-sum-fits}
 use Rattle.cube.proofs.Planes.{held-high, held-low}
 use borrow.Author.Needs.{needs}

@@ -1,4 +1,4 @@
--- `cube::points::place_by` meets its contract: a child number at a time, the root's first.
+-- `cube::points::place_by` meets its contract: one child number at a time, from the root down.
 use native.Mathlib.Omega.{arith}
 use borrow.Author.Needs.{needs}
 use Rattle.cube.proofs.Places.{Bits, bits-start, bits-small, bits-on, bits-all}

@@ -1,8 +1,8 @@
-// Runs building over the vectors of standard input, and writes code, number, the map, and whether all other bytes of the buffer stayed.
+// Runs `zone_build` over the vectors of standard input, and writes code, number, the map, and whether all other bytes of the buffer are unchanged.
 
 ghost use Rattle.io.specs.Counts.{Counts};
 
-// What each byte of a buffer is before it is lent.
+// The value of each byte of a buffer before it is lent.
 const FILLED: u8 = 170;
 
 fn main() {
@@ -17,7 +17,7 @@ fn main() {
     }
 }
 
-// A vector is the bytes of X, Y, Z, k, d, how many bytes are lent, and the sheet. One that is too short leaves its line without an answer.
+// A vector is the bytes of X, Y, Z, k, d, the number of bytes lent, and the sheet. One that is too short leaves its line without an answer.
 fn build_from(s: &[u8]) {
     if s.len() < 15 {
         return;
@@ -37,14 +37,14 @@ fn build_from(s: &[u8]) {
     answer(reply.code, reply.number, out);
 }
 
-// How many bytes of the buffer are lent: as many as b says, since the buffer has 256.
+// The number of bytes lent: b, since the buffer has 256.
 fn room_of(b: u8, buffer: &[u8]) -> usize
     ensures { λ r. ⌜ Counts r (now (buffer .entry)) ⌝ }
 {
     io::count(b as isize, buffer)
 }
 
-// Writes the rest of a line; only the bytes of a map may differ from what the buffer was filled with.
+// Writes the rest of a line; only the bytes of a map may differ from the fill value.
 fn answer(code: u32, number: u64, out: &[u8]) {
     vectors::answer(code, number);
     let size = if code == 0 { number as usize } else { 0 };
@@ -55,7 +55,7 @@ fn answer(code: u32, number: u64, out: &[u8]) {
     }
 }
 
-// Writes the first n bytes, and answers whether all after them are as they were before the buffer was lent.
+// Writes the first n bytes, and returns whether all bytes after them still have the fill value.
 fn held(out: &[u8], n: usize) -> bool {
     let mut kept = true;
     for i in 0..out.len() {

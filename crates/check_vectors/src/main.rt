@@ -1,4 +1,4 @@
-// Runs the test of a sheet over the vectors of standard input, and writes code and number.
+// Runs `zone_check` over the vectors of standard input, and writes code and number.
 
 fn main() {
     let mut input = [0u8; 65536];

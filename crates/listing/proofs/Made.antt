@@ -1,4 +1,4 @@
--- A map that building answers opens.
+-- A map that `build` has written opens.
 use mathlib.Core.Path.{_≡_, sym, ap, _∙_}
 use mathlib.Core.Bool.{Bool}
 use mathlib.Core.List.{List, []}
@@ -18,7 +18,7 @@ use Rattle.building.specs.Build.{outcome, builtMap, buildOf}
 use Rattle.building.proofs.Answers.{Made, done-made}
 use Rattle.roundtrip.proofs.Built.{built-opens, built-root}
 
--- the root as its fields are handed to `build`, read back from their bits
+-- the root as `build` gets it, its fields read back from their bits
 abbrev handed : Root → Root
 handed r = record { x = toZ w32 (ofZ w32 (r .x)); y = toZ w32 (ofZ w32 (r .y)); z = toZ w32 (ofZ w32 (r .z)); k = r .k; d = r .d }
 

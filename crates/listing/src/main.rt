@@ -14,7 +14,7 @@ use zonemap::Met;
 const SHEET_FROM: usize = 14;
 
 fn main() {
-    // One byte more than the most that is taken, so that a longer input shows.
+    // One byte more than the longest input allowed, so that a longer one is noticed.
     let mut input = [0u8; 4097];
     let n = io::read_full(0, &mut input);
     if n < SHEET_FROM || n > 4096 {
@@ -37,7 +37,7 @@ fn root_of(s: &[u8]) -> Root
     }
 }
 
-// Builds the map that the input asks for, and writes it or its refusal.
+// Builds the map that the input asks for, and writes it, or the refusal.
 fn list(s: &[u8])
     requires { ⌜ 14 ≤ length (now s) ⌝ }
 {
@@ -111,7 +111,7 @@ fn line(a: i64, b: i64, c: i64, d: i64, e: i64, f: i64) {
     let _line = io::write_all(1, &out[..end]);
 }
 
-// Writes `refused`, the code and the number. A reply's number is far below 2^63, so the remainder is the number itself.
+// Writes `refused`, the code and the number. A reply's number is far below 2^63, so taking the remainder does not change it.
 fn refuse(code: u32, number: usize) {
     let _word = io::write_all(1, b"refused ");
     let mut out = [0u8; 42];

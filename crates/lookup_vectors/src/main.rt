@@ -1,4 +1,4 @@
-// Runs looking up over the vectors of standard input, and writes code and number.
+// Runs `zone_lookup` over the vectors of standard input, and writes code and number.
 
 fn main() {
     let mut input = [0u8; 131072];
@@ -12,7 +12,7 @@ fn main() {
     }
 }
 
-// A vector is the bytes of X, Y and Z, of the sheet's length (two bytes, since its own may be damaged), of the sheet and of the map. One that is too short leaves its line without an answer.
+// A vector is the bytes of X, Y and Z, the sheet's length (two bytes, since the length in the sheet may be damaged), the sheet and the map. One that is too short leaves its line without an answer.
 fn look_up_from(s: &[u8]) {
     if s.len() < 14 {
         return;

@@ -1,4 +1,4 @@
--- Where a record stands, its kind tells its count byte and which record it is.
+-- Where a record stands, its kind determines its count byte and which record it is.
 use mathlib.Core.Path.{_≡_, refl, ap, sym, _∙_}
 use mathlib.Core.Bool.{true, false, cond, _&&_, and-eq-true-iff}
 use mathlib.Core.List.{List}
@@ -19,7 +19,7 @@ use Rattle.sheet.specs.declared.Record.the-variants.{Constant, X, Y, Z, Sum, Di
 use Rattle.sheet.specs.declared.Row.the-variants.{Known}
 use Rattle.sheet.specs.Table.{rowOf, rowAt, isKnown, Stands}
 
--- the count byte of a kind, and the record that it makes with the bytes after it
+-- the count byte of a kind, and the record that the kind makes with the bytes after it
 abbrev countOf : ℕ → ℕ
 countOf kind =
     cond (eqb kind 1) 5 (cond (eqb kind 2) 1 (cond (eqb kind 3) 1 (cond (eqb kind 4) 1 (cond (eqb kind 5) 3 (cond (eqb kind 6) 3 (cond (eqb kind 7) 3
@@ -34,7 +34,7 @@ module _ (size kind a b : ℕ) (c : ℤ) where
   abbrev Told : Type 0
   Told = (0 < size) × (size ≤ 5) × (size ≡ countOf kind) × (rowOf size kind a b c ≡ Known (kindOf kind a b c))
 
-  -- a row that fits tells all
+  -- a matching row determines all of it
   hit : (k m : ℕ) → (0 < k) × (k ≤ 5) × (k ≡ countOf m) × (rowOf k m a b c ≡ Known (kindOf m a b c)) → (eqb size k && eqb kind m) ≡ true → Told
   hit k m h t =
       let e = and-eq-true-iff (eqb size k) (eqb kind m) .0 t in
@@ -73,7 +73,7 @@ module _ (s : List ℕ) (at : ℕ) (h : Stands s at) where
   pub record-few : getD s at 0 ≤ 5
   record-few = tells .1
 
-  -- its bytes are all in the sheet, and the record is the one of its kind
+  -- all its bytes are in the sheet, and the record is the one that its kind makes
   pub record-room : (k : ℕ) → kind ≡ k → at + countOf k < length s
   record-room k e = omega (arith, h .inside, tells .2 ∙ ap countOf e)
 
@@ -83,7 +83,7 @@ module _ (s : List ℕ) (at : ℕ) (h : Stands s at) where
   pub record-constant : (c : ℤ) → kind ≡ 1 → c ≡ signedAt s (at + 2) → mag c < 2 ^ 31 → rowAt s at ≡ Known (Constant (toZ w32 (ofZ w32 c)))
   record-constant c e h f = record-is 1 e ∙ ap (λ (z : ℤ). Known (Constant z)) (sym (toZ-ofZ {w = w32} (record { sfits = f }) ∙ h))
 
-  -- of a kind that is none of the others it is a complement
+  -- a record of none of the other kinds is a complement
   module _ (n1 : kind ≡ 1 → ⊥) (n2 : kind ≡ 2 → ⊥) (n3 : kind ≡ 3 → ⊥) (n4 : kind ≡ 4 → ⊥) (n5 : kind ≡ 5 → ⊥) (n6 : kind ≡ 6 → ⊥) (n7 : kind ≡ 7 → ⊥)
       (n8 : kind ≡ 8 → ⊥) (n16 : kind ≡ 16 → ⊥) (n17 : kind ≡ 17 → ⊥) (n18 : kind ≡ 18 → ⊥) where
     last : (0 < getD s at 0) × (getD s at 0 ≤ 5) × (getD s at 0 ≡ 2) × (rowAt s at ≡ Known (Complement (getD s (at + 2) 0)))

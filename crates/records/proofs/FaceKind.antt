@@ -1,4 +1,4 @@
--- A face is a record of kind 16, and no other is.
+-- The faces are exactly the records of kind 16.
 use mathlib.Core.Path.{_≡_, refl}
 use lib.Dec.{eqb}
 use Rattle.sheet.specs.declared.Record.{Record}

@@ -1,4 +1,4 @@
--- The offset of a record is where a walk through the sheet meets it, and the loop that lists the offsets.
+-- A walk through the sheet meets each record at its offset; and the loop that lists the offsets.
 use mathlib.Core.Path.{_≡_, refl, _∙_}
 use mathlib.Core.List.{List}
 use Prim.Native.Nat.{ℕ, zero, suc, _+_, _*_, _≤_, _<_}
@@ -21,7 +21,7 @@ module _ (s : List ℕ) where
   unfolding offsetOf
   next-offset n = rw (add-one n)
 
-  -- n records came before it
+  -- n records come before offset n
   pub before-offset : (n : ℕ) → n ≤ length (recordsOf s) → Before s (offsetOf s n) n
   unfolding offsetOf
   before-offset zero h = before-first s
@@ -30,7 +30,7 @@ module _ (s : List ℕ) where
       let w = before-offset n (omega arith) in
       rw (add-one n) at (before-next s (offsetOf s n) n w more _ (record-is s (offsetOf s n) (stands s (offsetOf s n) n w more) _ refl))
 
-  -- the record of that number stands there
+  -- record n stands at offset n
   pub stands-there : (n : ℕ) → n < length (recordsOf s) → Stands s (offsetOf s n)
   stands-there n more = stands s (offsetOf s n) n (before-offset n (omega arith)) more
 
@@ -40,7 +40,7 @@ module _ (s : List ℕ) where
   offset-low (suc n) h =
       omega (arith, offset-low n (omega arith), record-few s (offsetOf s n) (stands-there n (omega arith)))
 
--- the offsets of n records are listed, and the next stands at `at`
+-- the invariant: the offsets of the first n records are listed, and the next record is at `at`
 pub record Listing (s offsets : List ℕ) (at n : ℕ) : Type 0 where
   pub among : n ≤ length (recordsOf s)
   pub here : at ≡ offsetOf s n
@@ -74,6 +74,6 @@ module _ (s offsets : List ℕ) (at n : ℕ) (w : Listing s offsets at n) where
               (λ t. getD-set-other offsets n i at 0 (eqb-false i n t) ∙ w .each i (omega (arith, eqb-false i n t)));
         }
 
--- where the list says, the record of that number stands
+-- record n stands where the list says
 pub listed-stands : (offsets s : List ℕ) → Offsets offsets s → (n : ℕ) → n < length (recordsOf s) → Stands s (getD offsets n 0)
 listed-stands offsets s h n more = rw (h .each n more) (stands-there s n more)

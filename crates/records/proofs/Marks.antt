@@ -1,4 +1,4 @@
--- The loop that marks the faces of a sheet: so many records are done, and the list holds the mark of each.
+-- The loop that marks the faces of a sheet: its invariant is that the first n records are done, and the list holds the mark of each.
 use mathlib.Core.Path.{_≡_, refl, _∙_}
 use mathlib.Core.List.{List}
 use Prim.Native.Nat.{ℕ, _+_, _≤_, _<_}
@@ -27,7 +27,7 @@ module _ (s marks : List ℕ) (at n : ℕ) (w : Marking s marks at n) where
   pub marking-end : length (recordsOf s) ≤ n → Marks marks (recordsOf s)
   marking-end h = record { long = w .long; each = rw (take-all n (recordsOf s) h) at (w .reads) }
 
-  -- one record more: r stands there
+  -- one more record: r is at `at`
   module _ (more : n < length (recordsOf s)) (r : Record) (row : rowAt s at ≡ Known r) where
     pub marking-next : (m : ℕ) → m ≡ markOf r → Marking s (set marks n m) (at + 1 + getD s at 0) (n + 1)
     marking-next m e =

@@ -22,7 +22,7 @@ isFace (Both a b) = false
 isFace (Either a b) = false
 isFace (Complement a) = false
 
--- A face is known by its record number. (X, which is none, stands for a record that is not there.)
+-- A face is known by its record number. (X, which is not a face, is the default for a missing record.)
 unfoldable pub hasFace : List Record → ℕ → Bool
 hasFace rs f = isFace (getD rs f X)
 
@@ -31,7 +31,7 @@ hasFace rs f = isFace (getD rs f X)
 abbrev pub markOf : Record → ℕ
 markOf r = cond (isFace r) 1 0
 
--- a list with a mark for each number of a record
+-- a list with a mark for each record number
 pub record Marks (marks : List ℕ) (rs : List Record) : Type 0 where
   pub long : length marks ≡ 256
   pub each : (f : ℕ) → getD marks f 0 ≡ markOf (getD rs f X)

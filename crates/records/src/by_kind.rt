@@ -1,11 +1,11 @@
-// The record at a place.
+// The record at an offset.
 
 ghost use mathlib.Core.Path.{_≡_};
 ghost use Rattle.sheet.specs.Table.{rowAt, Stands};
 ghost use Rattle.sheet.specs.declared.Row.the-variants.{Known};
 use sheet::Record;
 
-// The record at a place where one is known to stand.
+// The record at an offset where one is known to stand.
 pub fn record_at(s: &[u8], at: usize) -> Record
     requires { ⌜ Stands (now s) at ⌝ }
     ensures { λ r. ⌜ rowAt (now (s .entry)) at ≡ Known r ⌝ }

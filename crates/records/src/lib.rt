@@ -1,4 +1,4 @@
-// Records of a sheet that was checked: where they stand, and what they are by their kind alone. A sheet is read again for each cube, and not checked again.
+// The records of a checked sheet: their offsets, and what they are, by kind alone. The sheet is read again for each cube, but not checked again.
 
 mod by_kind;
 mod marking;

@@ -1,4 +1,4 @@
--- Laws of `along`: its length, that an entry rests on the records before it alone, and the induction that everything else follows by.
+-- Laws of `along`: its length, that an entry depends only on its record and those before it, and the induction that gives everything else.
 use mathlib.Core.Path.{_≡_, refl, sym, ap, _∙_}
 use mathlib.Core.List.{List, [], _∷_, _++_, append-assoc}
 use Prim.Native.Nat.{ℕ, zero, suc, _+_, _≤_, _<_}
@@ -14,12 +14,12 @@ module _ {A : Type 0} (step : List A → Record → A) where
   onward-append vs [] ss = refl
   onward-append vs (r ∷ rs) ss = onward-append (vs ++ step vs r ∷ []) rs ss
 
-  -- records in two parts: the second goes on from the first
+  -- records in two parts: the second continues from the first
   pub along-append : (rs ss : List Record) → along step (rs ++ ss) ≡ onward step (along step rs) ss
   unfolding along
   along-append rs ss = onward-append [] rs ss
 
-  -- one more record is one more entry
+  -- one more record adds one more entry
   pub along-more : (rs : List Record) (r : Record) → along step (rs ++ r ∷ []) ≡ along step rs ++ step (along step rs) r ∷ []
   unfolding onward
   along-more rs r = along-append rs (r ∷ [])
@@ -29,7 +29,7 @@ module _ {A : Type 0} (step : List A → Record → A) where
   length-onward vs [] = omega arith
   length-onward vs (r ∷ rs) = omega (arith, length-onward (vs ++ step vs r ∷ []) rs, length-append vs (step vs r ∷ []))
 
-  -- an entry for each record
+  -- there is one entry per record
   pub length-along : (rs : List Record) → length (along step rs) ≡ length rs
   unfolding along
   length-along rs = omega (arith, length-onward [] rs)
@@ -43,7 +43,7 @@ module _ {A : Type 0} (step : List A → Record → A) where
       ∙ ap (take (length vs)) (onward-take ws rs)
       ∙ take-append-seam vs (step vs r ∷ [])
 
-  -- the first entries are those of the first records, whatever records come after
+  -- the first entries are those of the first records, whatever records follow
   pub prefix : (before after : List Record) → take (length before) (along step (before ++ after)) ≡ along step before
   prefix before after =
       rw (along-append before after, ← length-along before) (onward-take (along step before) after)
@@ -66,7 +66,7 @@ module _ {A : Type 0} (step : List A → Record → A) where
       ∙ ap (λ l. getD l (length before) d) (along-more before r)
       ∙ getD-at (along step before) (step (along step before) r) [] d (length before) (length-along before)
 
--- two lists, entry by entry; d and e stand for an entry that is not there
+-- two lists, entry by entry; d and e are the defaults for a missing entry
 pub record Pairs {A B : Type 0} (R : A → B → Type 0) (d : A) (e : B) (vs : List A) (ws : List B) : Type 0 where
   pub same : length vs ≡ length ws
   pub each : (i : ℕ) → R (getD vs i d) (getD ws i e)
@@ -86,7 +86,7 @@ module _ {A B : Type 0} (R : A → B → Type 0) (d : A) (e : B) (none : R d e) 
       record { same = omega (arith, h .same, length-append vs (v ∷ []), length-append ws (w ∷ [])); each = more-each vs ws v w (h .same) (h .each) p }
 
   module _ (f : List A → Record → A) (g : List B → Record → B) where
-    -- THE INDUCTION. Where each record's step keeps R, from the entries before it, R holds of all entries
+    -- THE INDUCTION. If each record's step keeps R, given the entries before it, R holds of all entries
     module _ (rs : List Record)
         (keeps : (before : List Record) (r : Record) (after : List Record) → before ++ r ∷ after ≡ rs
         → Pairs R d e (along f before) (along g before) → R (f (along f before) r) (g (along g before) r)) where
@@ -103,6 +103,6 @@ module _ {A B : Type 0} (R : A → B → Type 0) (d : A) (e : B) (none : R d e) 
       unfolding along onward
       related-in = go [] rs refl (record { same = refl; each = λ i. none })
 
-    -- the same, where a step keeps R whatever the entries before it are
+    -- the same, if a step keeps R whatever the entries before it are
     pub related : ((vs : List A) (ws : List B) (r : Record) → Pairs R d e vs ws → R (f vs r) (g ws r)) → (rs : List Record) → Pairs R d e (along f rs) (along g rs)
     related keeps rs = related-in rs (λ before r after _ h. keeps (along f before) (along g before) r h)

@@ -1,4 +1,4 @@
--- Document 01's table of kinds by its numbers: each row, that there is no other, and the sorts of a record and of its operands by its kind.
+-- Document 01's table of kinds by its numbers: each row, that there are no others, and the sorts of a record and of its operands by its kind.
 use mathlib.Core.Path.{_≡_, refl, sym, ap, ap₂, _∙_}
 use mathlib.Core.Bool.{true, cond, _&&_, true≢false, and-eq-true-iff}
 use Prim.Native.Nat.{ℕ}

@@ -1,4 +1,4 @@
--- The rows that fit a record by its count byte, and what `Cursor::read` answers at each of its tests.
+-- The rows that match a record by its count byte, and what `Cursor::read` returns at each of its tests.
 use mathlib.Core.Path.{_≡_, sym, ap, _∙_}
 use mathlib.Core.List.{List}
 use Prim.Native.Nat.{ℕ, _+_, _-_, _<_, _≤_, _^_}

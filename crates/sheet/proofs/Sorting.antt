@@ -1,4 +1,4 @@
--- The test of operands as a loop meets it: n records are done, an array holds their sorts, and what is left decides as the whole does.
+-- The loop that tests operands. Its invariant: n records are done, an array holds their sorts, and the result for the remaining records is the result for the whole sheet.
 use mathlib.Core.Path.{_≡_, refl, sym, ap, _∙_}
 use mathlib.Core.Bool.{Bool, true, false, cond}
 use mathlib.Core.List.{List, [], _∷_, _++_, map}
@@ -64,7 +64,7 @@ module _ (s : List ℕ) (sorts : List Sort) (last : Sort) (n : ℕ) (c : Cursor)
   abbrev rs : List Record
   rs = recordsOf s
 
-  -- at a record: the test of the code is the one of the definition
+  -- at a record: the code's test is that of the definition
   module _ (r : Record) (next : Cursor) (e : readAt s c ≡ Found r next) (a b : ℕ) (ask first second : Sort) (met : Bool)
       (ea : a ≡ firstOf r) (eb : b ≡ secondOf r) (ek : ask ≡ askedOf r) (ef : first ≡ getD sorts a Neither) (es : second ≡ getD sorts b Neither) (em : met ≡ areMet ask first second) where
     tested : met ≡ isMet (sortsOf rs n) r

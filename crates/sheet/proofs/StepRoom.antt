@@ -1,4 +1,4 @@
--- What is read of the step room's sheet.
+-- What is read from the step room's sheet.
 use mathlib.Core.Path.{_≡_, refl}
 use Rattle.bigendian.specs.Numbers.{unsignedAt, signed32}
 use Rattle.replies.specs.declared.Reply.the-variants.{Done}

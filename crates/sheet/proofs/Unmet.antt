@@ -1,4 +1,4 @@
--- What it is that no record's operands are unmet: each is an earlier record of the sort that is asked.
+-- What it means that no record's operands are unmet: each operand is an earlier record of the required sort.
 use mathlib.Core.Path.{_≡_, refl, sym, ap, _∙_}
 use mathlib.Core.Bool.{true, false, and-eq-true-iff}
 use mathlib.Core.List.{List, [], _∷_, _++_, map, append-assoc, append-nil}
@@ -30,7 +30,7 @@ suits-itself Neither = refl
 suits-itself Arithmetic = refl
 suits-itself Logical = refl
 
--- where no sort is asked there is nothing to show
+-- if no sort is required, there is nothing to show
 where-asked : (asked sort : Sort) → ((asked ≡ Neither → ⊥) → suits asked sort ≡ true) → suits asked sort ≡ true
 where-asked Neither sort h = refl
 where-asked Arithmetic sort h = h (λ e. let z : _≡_ {A = ℕ} 0 1 = cc in omega arith)
@@ -56,7 +56,7 @@ module _ (rs : List Record) (i : ℕ) (h : i < length rs) where
   abbrev r : Record
   r = getD rs i X
 
-  -- operand a of record i is an earlier record of the sort that is asked
+  -- operand a of record i is an earlier record of the required sort
   abbrev pub Earlier : ℕ → Type 0
   Earlier a = (a < i) × (sortOf (getD rs a X) ≡ askedOf r)
 
@@ -74,7 +74,7 @@ module _ (rs : List Record) (i : ℕ) (h : i < length rs) where
   earlier-suits a e =
       where-asked (askedOf r) _ (λ n. rw (earlier rs i a (e n .0) (omega arith), e n .1) (suits-itself (askedOf r)))
 
-  -- its operands are met where both are such
+  -- the operands of record i are met if both are
   abbrev pub Operands : Type 0
   Operands = (askedOf r ≡ Neither → ⊥) → Earlier (firstOf r) × Earlier (secondOf r)
 
@@ -87,7 +87,7 @@ module _ (rs : List Record) (i : ℕ) (h : i < length rs) where
   operands-met o = rw (earlier-suits (firstOf r) (λ n. o n .0), earlier-suits (secondOf r) (λ n. o n .1))
 
 -- ---- all records
--- record i of those after some is met by the sorts of all before it
+-- the operands of record i of `after` are met by the sorts of all records before it
 abbrev MetAt : List Record → List Record → ℕ → Type 0
 MetAt before after i = isMet (map sortOf (before ++ take i after)) (getD after i X) ≡ true
 
@@ -118,7 +118,7 @@ met-all before (r ∷ after) h =
     let rest = met-all (before ++ r ∷ []) after (λ i k. rw (one-on before r after i) (h (suc i) (omega arith))) in
     rw first (rw (map-append before r) at rest ∙ omega (arith, length-append before (r ∷ [])))
 
--- no record is unmet exactly where each has its operands
+-- no record is unmet exactly if each has its operands
 module _ (rs : List Record) where
   pub none-unmet : firstUnmet [] rs ≡ length rs → (i : ℕ) (h : i < length rs) → Operands rs i h
   none-unmet e i h = met-operands rs i h (all-met [] rs (e ∙ omega arith) i h)
@@ -126,7 +126,7 @@ module _ (rs : List Record) where
   pub all-operands : ((i : ℕ) (h : i < length rs) → Operands rs i h) → firstUnmet [] rs ≡ length rs
   all-operands o = met-all [] rs (λ i h. operands-met rs i h (o i h)) ∙ omega arith
 
--- the first whose operands are not met is named
+-- the number is that of the first record whose operands are not met
 first-from : (done before : List Record) (r : Record) (after : List Record) → firstUnmet (map sortOf done) before ≡ length done + length before
     → isMet (map sortOf (done ++ before)) r ≡ false → firstUnmet (map sortOf done) (before ++ r ∷ after) ≡ length done + length before
 unfolding firstUnmet
@@ -143,7 +143,7 @@ first-from done (q ∷ before) r after e h =
 pub first-unmet : (before : List Record) (r : Record) (after : List Record) → firstUnmet [] before ≡ length before → isMet (map sortOf before) r ≡ false → firstUnmet [] (before ++ r ∷ after) ≡ length before
 first-unmet before r after e h = first-from [] before r after (e ∙ omega arith) h ∙ omega arith
 
--- the first that is unmet is among the records, or there is none
+-- the first unmet record is one of the records, or there is none
 pub unmet-most : (sorts : List Sort) (rs : List Record) → firstUnmet sorts rs ≤ length sorts + length rs
 unfolding firstUnmet
 unmet-most sorts [] = omega arith

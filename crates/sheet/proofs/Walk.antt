@@ -1,4 +1,4 @@
--- Walking through a sheet's records by `Cursor::read`: what holds at a cursor that n records came before. Every loop over records goes by it.
+-- Walking through a sheet's records by `Cursor::read`: what holds at a cursor with n records before it. Every loop over records uses it.
 use mathlib.Core.Path.{_≡_, refl, sym, ap, _∙_}
 use mathlib.Core.Bool.{Bool, true, false, cond}
 use mathlib.Core.List.{List, [], _∷_, _++_}
@@ -42,11 +42,11 @@ module _ (s : List ℕ) (c : Cursor) {r : Record} {next : Cursor} (e : readAt s 
   fitting : (rowAt s (c .at) ≡ Known r) × (next ≡ record { at = c .at + 1 + getD s (c .at) 0; left = c .left - 1 })
   fitting = known (rowAt s (c .at)) _ (c .at) (past (leb (length s) (c .at + getD s (c .at) 0)) (c .at) _ row)
 
-  -- a record that was read leaves one record fewer to come
+  -- after reading a record, one fewer may follow
   fewer : next .left ≡ c .left - 1
   fewer = ap (λ (k : Cursor). k .left) (fitting .1)
 
-  -- and it stands there
+  -- and the record stands there
   found-stands : Stands s (c .at)
   found-stands = record { inside = leb-false (length s) (c .at + getD s (c .at) 0) (over _ (c .at) _ row); known = ap isKnown (fitting .0) }
 
@@ -64,7 +64,7 @@ read-stop s at zero e = cc
 read-stop s at (suc left) e = ap (λ (k : Read). onRead k (λ to. readFrom left s (to .at))) e
 
 -- ---- the walk
--- n records came before the cursor c
+-- the cursor c has n records before it
 pub record At (s : List ℕ) (c : Cursor) (n : ℕ) : Type 0 where
   pub total : n + c .left ≡ 256
   pub among : n ≤ length (recordsOf s)
@@ -77,7 +77,7 @@ at-start s = record { total = refl; among = omega arith; rest = refl; stops = re
 
 module _ (s : List ℕ) (c : Cursor) (n : ℕ) (w : At s c n) where
   module _ (r : Record) (next : Cursor) (e : readAt s c ≡ Found r next) where
-    -- the records that are left begin with the one that was read
+    -- the remaining records begin with the one that was read
     pub here : drop n (recordsOf s) ≡ r ∷ readFrom (next .left) s (next .at) .records
     here = sym (w .rest) ∙ ap (λ (k : Reading). k .records) (read-more s (c .at) (c .left) e .1)
 
@@ -104,7 +104,7 @@ module _ (s : List ℕ) (c : Cursor) (n : ℕ) (w : At s c n) where
         }
 
   module _ (x : ℕ) (e : readAt s c ≡ Refused x) where
-    -- where none could be read, all were
+    -- if no record could be read, all had been
     pub all-read : n ≡ length (recordsOf s)
     all-read =
         let f : drop n (recordsOf s) ≡ [] = sym (w .rest) ∙ ap (λ (k : Reading). k .records) (read-stop s (c .at) (c .left) e) in
@@ -124,8 +124,8 @@ at-after s c w r next e =
     let z : n + 1 ≡ 256 - next .left = omega (arith, t .total) in
     rw z at t
 
--- ---- the walk of a loop that knows how many records there are: at each place one stands
--- n records came before the place `at`
+-- ---- the walk of a loop that knows the number of records: there is one at each place
+-- the place `at` has n records before it
 abbrev pub Before : List ℕ → ℕ → ℕ → Type 0
 Before s at n = At s (record { at = at; left = 256 - n }) n
 
@@ -136,7 +136,7 @@ module _ (s : List ℕ) (at n : ℕ) (w : Before s at n) (more : n < length (rec
   abbrev here-at : Cursor
   here-at = record { at = at; left = 256 - n }
 
-  -- what is said of a record that can be read there is said
+  -- a record can be read there, so what follows from one follows
   read-there : {A : Type 0} → ((r : Record) (next : Cursor) → readAt s here-at ≡ Found r next → A) → A
   read-there {A} f = by (readAt s here-at) refl
     where
@@ -162,6 +162,6 @@ module _ (s : List ℕ) (at n : ℕ) (w : Before s at n) (more : n < length (rec
         let g : next ≡ record { at = at + 1 + getD s at 0; left = 256 - (n + 1) } = fitting s here-at f .1 ∙ ap (λ (l : ℕ). record { at = at + 1 + getD s at 0; left = l }) m in
         rw g at t)
 
-    -- the records up to it are those before it, and it
+    -- the first n + 1 records are the first n and this one
     pub stands-taken : (d : Record) → take (n + 1) (recordsOf s) ≡ take n (recordsOf s) ++ r ∷ []
     stands-taken d = ap (λ (k : ℕ). take k (recordsOf s)) (add-one n) ∙ take-suc (recordsOf s) n d more ∙ ap (λ (x : Record). take n (recordsOf s) ++ x ∷ []) (stands-record d)

@@ -1,4 +1,4 @@
--- What a record asks of its operands, and the first record that does not get it.
+-- What a record requires of its operands, and the first record whose operands do not meet it.
 use Prim.Native.Nat.{ℕ}
 use mathlib.Core.Bool.{Bool, true, false, cond, _&&_}
 use mathlib.Core.List.{List, [], _∷_, _++_}
@@ -38,7 +38,7 @@ askedOf (Both a b) = Logical
 askedOf (Either a b) = Logical
 askedOf (Complement a) = Logical
 
--- the number of the first operand; 0 where there is none
+-- the number of the first operand; 0 if there is none
 abbrev pub firstOf : Record → ℕ
 firstOf (Constant c) = 0
 firstOf X = 0
@@ -53,7 +53,7 @@ firstOf (Both a b) = a
 firstOf (Either a b) = a
 firstOf (Complement a) = a
 
--- the number of the last operand; 0 where there is none
+-- the number of the last operand; 0 if there is none
 abbrev pub secondOf : Record → ℕ
 secondOf (Constant c) = 0
 secondOf X = 0
@@ -68,7 +68,7 @@ secondOf (Both a b) = b
 secondOf (Either a b) = b
 secondOf (Complement a) = a
 
--- whether a record of a sort is what was asked; where neither is asked there is no operand
+-- whether the required sort is met by a record of a given sort; Neither is required of no operand
 abbrev pub suits : Sort → Sort → Bool
 suits Neither sort = true
 suits Arithmetic Neither = false
@@ -81,16 +81,16 @@ suits Logical Logical = true
 abbrev pub areMet : Sort → Sort → Sort → Bool
 areMet asked first second = suits asked first && suits asked second
 
--- each operand of the record is an earlier record of the right sort: `sorts` are those of the earlier records, and one that is not there is neither
+-- each operand of the record is an earlier record of the right sort: `sorts` lists those of the earlier records, and a missing record has sort Neither
 abbrev pub isMet : List Sort → Record → Bool
 isMet sorts r = areMet (askedOf r) (getD sorts (firstOf r) Neither) (getD sorts (secondOf r) Neither)
 
--- the number of the first record whose operands are not met; where all are, how many records there are
+-- the number of the first record whose operands are not met; if all are met, the number of records
 unfoldable pub firstUnmet : List Sort → List Record → ℕ
 firstUnmet sorts [] = length sorts
 firstUnmet sorts (r ∷ rs) = cond (isMet sorts r) (firstUnmet (sorts ++ sortOf r ∷ []) rs) (length sorts)
 
--- the sort of the last record; neither where there is none
+-- the sort of the last record; Neither if there is none
 unfoldable pub lastSort : List Record → Sort
 lastSort [] = Neither
 lastSort (r ∷ []) = sortOf r

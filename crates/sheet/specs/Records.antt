@@ -7,7 +7,7 @@ use Rattle.sheet.specs.declared.Read.{Read}
 use Rattle.sheet.specs.declared.Read.the-variants.{Found, Refused}
 use Rattle.sheet.specs.Table.{readAt}
 
--- the records that could be read, and the offset at which no record could
+-- the records that were read, and the offset at which no record could be read
 pub record Reading : Type 0 where
   pub records : List Record
   pub stop : ℕ
@@ -19,7 +19,7 @@ abbrev pub onRead : Read → (Cursor → Reading) → Reading
 onRead (Found r next) rest = first r (rest next)
 onRead (Refused at) rest = record { records = []; stop = at }
 
--- what is read from `at` on, where at most `left` records may still come
+-- what is read from `at` on, if at most `left` records may still follow
 unfoldable pub readFrom : ℕ → List ℕ → ℕ → Reading
 readFrom zero s at = record { records = []; stop = at }
 readFrom (suc left) s at = onRead (readAt s (record { at = at; left = suc left })) (λ next. readFrom left s (next .at))

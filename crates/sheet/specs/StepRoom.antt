@@ -1,4 +1,4 @@
--- Document 01's sheet S, of the step room.
+-- The step room's sheet, S of document 01.
 use mathlib.Core.List.{List, [], _∷_}
 use Prim.Native.Nat.{ℕ}
 use lib.IntN.{pos}

@@ -1,4 +1,4 @@
--- The zone sheet's table of kinds, and the record at a place of a sheet.
+-- The zone sheet's table of kinds, and the record at an offset of a sheet.
 use mathlib.Core.Path.{_≡_}
 use Prim.Native.Nat.{ℕ, _+_, _-_, _<_}
 use mathlib.Core.Bool.{Bool, true, false, cond, _&&_}
@@ -14,7 +14,7 @@ use Rattle.sheet.specs.declared.Cursor.{Cursor}
 use Rattle.sheet.specs.declared.Read.{Read}
 use Rattle.sheet.specs.declared.Read.the-variants.{Found, Refused}
 
--- The table, row by row: a count byte, a kind, and the record that they make with the bytes after the kind: a and b its first two, c all four as a signed number.
+-- The table, row by row: a count byte, a kind, and the record they make with the bytes after the kind. a and b are the first two of these, c the first four as a signed number.
 unfoldable pub rowOf : ℕ → ℕ → ℕ → ℕ → ℤ → Row
 rowOf size kind a b c =
     cond (eqb size 5 && eqb kind 1) (Known (Constant c))
@@ -31,28 +31,28 @@ rowOf size kind a b c =
     (cond (eqb size 2 && eqb kind 19) (Known (Complement a))
     Unknown)))))))))))
 
--- the row that fits the bytes from `at` on
+-- the row that matches the bytes from `at` on
 unfoldable pub rowAt : List ℕ → ℕ → Row
 rowAt s at = rowOf (getD s at 0) (getD s (at + 1) 0) (getD s (at + 2) 0) (getD s (at + 3) 0) (signedAt s (at + 2))
 
--- the record of a row, with the cursor past it, or the refusal at its offset
+-- the record of a row and the cursor past it, or the refusal with its offset
 abbrev pub onRow : Row → Cursor → ℕ → Read
 onRow (Known r) next at = Found r next
 onRow Unknown next at = Refused at
 
--- The record at a cursor. It is refused, at its byte offset, if it would be the 257th (none is left to come), runs over the end, or no row fits it: an unknown kind or a wrong count.
+-- The record at a cursor. It is refused, with its byte offset, if it would be the 257th (`left` is 0), runs over the end, or matches no row: an unknown kind or a wrong count.
 unfoldable pub readAt : List ℕ → Cursor → Read
 readAt s c =
     cond (eqb (c .left) 0) (Refused (c .at))
     (cond (leb (length s) (c .at + getD s (c .at) 0)) (Refused (c .at))
     (onRow (rowAt s (c .at)) (record { at = c .at + 1 + getD s (c .at) 0; left = c .left - 1 }) (c .at)))
 
--- (Only an inner contract cites this.) Where reading stands after this: past the record, or at the one that is refused
+-- (Only an inner contract cites this.) The offset reached after this read: past the record, or at the refused one
 abbrev pub reachedOf : Read → ℕ
 reachedOf (Found r next) = next .at
 reachedOf (Refused at) = at
 
--- (Only inner contracts cite this.) A record stands at a place: it runs over no end, and a row fits it
+-- (Only inner contracts cite this.) A record stands at an offset: it does not run over the end, and a row matches it
 abbrev pub isKnown : Row → Bool
 isKnown (Known r) = true
 isKnown Unknown = false

@@ -1,4 +1,4 @@
-// The zone sheet: its records read one by one from any bytes, and the sheet as a whole tested in the order of replies 1 to 5.
+// The zone sheet: reads its records one by one from any bytes, and tests the whole sheet in the order of replies 1 to 5.
 
 mod checking;
 mod operands;
@@ -7,7 +7,7 @@ mod table;
 
 pub use checking::check;
 
-// A record: its kind with what follows the kind. An operand is the number of an earlier record.
+// A record: its kind and what follows the kind. An operand is the number of an earlier record.
 pub enum Record {
     Constant(i32),
     X,
@@ -23,25 +23,25 @@ pub enum Record {
     Complement(u8),
 }
 
-// The record of a row of the table of kinds, or word that no row fits.
+// The record of a row of the table of kinds, or Unknown if no row matches.
 pub enum Row {
     Known(Record),
     Unknown,
 }
 
-// Where the next record starts, and how many records may still come.
+// Where the next record starts, and how many records may still follow.
 pub struct Cursor {
     pub at: usize,
     pub left: usize,
 }
 
-// What stands at a cursor: a record and the cursor past it, or a refusal with its byte offset.
+// What is read at a cursor: a record and the cursor past it, or a refusal with its byte offset.
 pub enum Read {
     Found(Record, Cursor),
     Refused(usize),
 }
 
-// What a record is by its kind: kinds 1 to 8 are arithmetic, 16 to 19 logical. A record that is not there is neither.
+// The sort of a record: kinds 1 to 8 are arithmetic, 16 to 19 logical. A missing record is neither.
 pub enum Sort {
     Neither,
     Arithmetic,

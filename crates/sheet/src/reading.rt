@@ -9,7 +9,7 @@ use crate::Row;
 use crate::table;
 
 impl Cursor {
-    // At the first record of a sheet.
+    // The cursor at the first record of a sheet.
     pub fn start() -> Cursor
         ensures { λ r. ⌜ r ≡ start ⌝ }
     {
@@ -43,7 +43,7 @@ impl Cursor {
 }
 
 impl Read {
-    // Where reading stands after this: past the record, or at the one that is refused.
+    // The offset reached after this read: past the record, or at the refused one.
     fn reached(self) -> usize
         ensures { λ r. ⌜ r ≡ reachedOf self ⌝ }
     {
@@ -54,7 +54,7 @@ impl Read {
     }
 }
 
-// Where reading the records stops: at the end of the sheet, or at the first record that is refused.
+// Where reading stops: at the end of the sheet, or at the first refused record.
 pub fn stop(s: &[u8]) -> usize
     ensures { λ r. ⌜ r ≡ stopOf (now (s .entry)) ⌝ }
 {

@@ -1,4 +1,4 @@
-// The table of kinds: which record the bytes at a place are.
+// The table of kinds: which record the bytes at an offset are.
 
 ghost use mathlib.Core.Path.{_≡_};
 ghost use Prim.Native.Nat.{_+_, _<_};
@@ -59,7 +59,7 @@ fn two_operands(kind: u8, a: u8, b: u8) -> Row
     Row::Unknown
 }
 
-// The row that fits the record whose count byte, `size`, stands at `at`.
+// The row that matches the record whose count byte, `size`, is at `at`.
 pub fn row_at(s: &[u8], at: usize, size: usize) -> Row
     requires { ⌜ size ≡ getD (now s) at 0 ⌝ ∗ ⌜ at + size < length (now s) ⌝ }
     ensures { λ r. ⌜ r ≡ rowAt (now (s .entry)) at ⌝ }

@@ -1,4 +1,4 @@
--- `lookup_vectors::main` is safe and ends: each line begins after the one before.
+-- `lookup_vectors::main` is safe and ends: each line begins after the previous one.
 use borrow.Author.Needs.{needs}
 use Prim.Native.Nat.{_-_}
 use mathlib.Core.Path.{_≡_}

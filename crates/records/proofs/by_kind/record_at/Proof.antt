@@ -1,4 +1,4 @@
--- `records::by_kind::record_at` meets its contract: the kind tells how many bytes follow it, and which record they make.
+-- `records::by_kind::record_at` meets its contract: the kind determines how many bytes follow it, and which record they make.
 use native.Mathlib.Omega.{arith}
 use Rattle.records.proofs.ByKind.{kind-room, record-room, record-is, record-constant, complement-room, complement-is}
 use borrow.Author.Needs.{needs}

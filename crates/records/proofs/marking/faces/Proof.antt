@@ -1,4 +1,4 @@
--- `records::marking::faces` meets its contract. The invariant is `Marking`: so many records are done, and the list has the mark of each.
+-- `records::marking::faces` meets its contract. The invariant is `Marking`: the first n records are done, and the list holds the mark of each.
 use Prim.Native.Nat.{_-_}
 use borrow.Author.Needs.{needs}
 use native.Mathlib.Omega.{arith}

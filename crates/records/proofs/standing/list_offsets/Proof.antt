@@ -1,4 +1,4 @@
--- `records::standing::list_offsets` meets its contract. The invariant is `Listing`: the offsets of so many records are listed.
+-- `records::standing::list_offsets` meets its contract. The invariant is `Listing`: the offsets of the first n records are listed.
 use Prim.Native.Nat.{_-_}
 use native.Mathlib.Omega.{arith}
 use Rattle.sheet.proofs.Good.{number-few}

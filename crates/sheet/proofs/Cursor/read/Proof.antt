@@ -1,4 +1,4 @@
--- `sheet::Cursor::read` meets its contract: at each return the tests that led there say what is read.
+-- `sheet::Cursor::read` meets its contract: at each return, the tests that led there determine what is read.
 use native.Mathlib.Omega.{arith}
 use Rattle.sheet.proofs.Rows.{refused-full, refused-end, refused-over, refused-row, found-row}
 use borrow.Author.Needs.{needs}

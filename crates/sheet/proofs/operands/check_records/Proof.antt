@@ -1,4 +1,4 @@
--- `sheet::operands::check_records` meets its contract. The invariant is `Sorting`: n records are done, and the array holds their sorts. The measure is what is left to come.
+-- `sheet::operands::check_records` meets its contract. The invariant is `Sorting`: n records are done, and the array holds their sorts. The measure is the number of records that may still follow.
 use mathlib.Core.Path.{sym, refl, _∙_}
 use native.Mathlib.Omega.{arith}
 use borrow.Author.Needs.{needs}

@@ -1,4 +1,4 @@
--- `sheet::reading::stop` meets its contract. The invariant: as many records came before as are not left to come. The measure is what is left.
+-- `sheet::reading::stop` meets its contract. The invariant: the cursor has 256 - left records before it. The measure is `left`.
 use mathlib.Core.Path.{sym, ap, _∙_}
 use Prim.Native.Nat.{_-_}
 use borrow.Author.Needs.{needs}

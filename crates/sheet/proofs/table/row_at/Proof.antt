@@ -1,4 +1,4 @@
--- `sheet::table::row_at` meets its contract: the count byte says which rows can fit.
+-- `sheet::table::row_at` meets its contract: the count byte determines which rows can match.
 use Rattle.sheet.proofs.Rows.{row-none, row-one, row-two, row-constant, row-no-constant, row-unknown}
 use borrow.Author.Needs.{needs}
 use Rattle.sheet.proofs.table.row_at.Statement.{statement}

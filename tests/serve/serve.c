@@ -5,14 +5,14 @@
    server. Numbers of requests and replies are little-endian, as on the machines it is built for.
 
    check:  'c', placing, sheet
-           -> code (32 bits), number (64 bits), whether the sheet is as it was (a byte)
+           -> code (32 bits), number (64 bits), whether the sheet is unchanged (a byte)
    build:  'b', placing, sheet, x y z (32 bits), k d (a byte), length of out (32 bits), seed of the bytes of out (64 bits)
-           -> code, number, whether the sheet is as it was, every byte of out
+           -> code, number, whether the sheet is unchanged, every byte of out
    open:   'o', placing, map
-           -> code, number, whether the map is as it was
-   lookup: 'l', placing, sheet, map, how many points (32 bits), x y z of each
-           -> code and number for each, whether sheet and map are as they were
-   trespass: 't', which (a byte): does what a wrong library might do, so that a test can see that it stops the server
+           -> code, number, whether the map is unchanged
+   lookup: 'l', placing, sheet, map, the number of points (32 bits), x y z of each
+           -> code and number for each, whether sheet and map are unchanged
+   trespass: 't', which (a byte): does what a wrong library might do, so that a test can check that it stops the server
 
    A sheet or a map is its length (32 bits) and its bytes. */
 #include "zone.h"
@@ -21,10 +21,10 @@
 #define MOST_POINTS 4096
 /* A request that takes longer stops the server, since every call has to return. The largest takes a minute under the emulator. */
 #define MOST_SECONDS 300
-/* No page of these machines is larger. */
+/* No page on these machines is larger. */
 #define PAGE ((size_t)65536)
 
-/* As in the C library, which is linked; the kit has no headers of it. */
+/* As in the C library, which is linked; the kit has no headers for it. */
 void *mmap(void *at, size_t length, int protection, int flags, int file, long offset);
 int mprotect(void *at, size_t length, int protection);
 long read(int file, void *to, size_t length);
@@ -36,7 +36,7 @@ void _exit(int status);
 
 enum { NOTHING = 0, READING = 1, READING_AND_WRITING = 3, PRIVATE_ANONYMOUS_NORESERVE = 0x4022 };
 
-/* Where slices lie: the first bit for the sheet, the second for out or the map, the third for slices without bytes. */
+/* Where slices lie: the first bit for the sheet, the second for out or the map, the third for empty slices. */
 enum { SHEET_FIRST = 1, SECOND_FIRST = 2, NULL_IF_EMPTY = 4 };
 
 enum { AFTER_END = 0, BEFORE_START = 1, INTO_SHEET = 2, KINDS_OF_TRESPASS = 3 };
@@ -50,7 +50,7 @@ typedef struct Room {
 
 static Room sheet_room, map_room, out_room;
 
-/* What was read of a sheet and a map, to compare with what became of the slices. */
+/* The sheet and the map as they were read, to compare with the slices after the call. */
 static uint8_t sheet_read[LARGEST], map_read[LARGEST];
 
 static void stop_if(int wrong, int status) {
@@ -105,7 +105,7 @@ static void make_room(Room *room) {
     stop_if(mprotect(room->pages, LARGEST, READING_AND_WRITING) != 0, 7);
 }
 
-/* Places a slice of this length, its first byte first in the pages, or else its last byte last. */
+/* Places a slice of this length at the start of the pages, or else at their end. */
 static void place(Room *room, size_t length, int first, int null_if_empty) {
     room->length = length;
     room->slice = first ? room->pages : room->pages + LARGEST - length;
@@ -115,7 +115,7 @@ static void place(Room *room, size_t length, int first, int null_if_empty) {
         room->slice = room->pages - 1;
 }
 
-/* Says what may be done with the pages in which a slice lies. */
+/* Sets the protection of the pages in which a slice lies. */
 static void allow(const Room *room, int protection) {
     if (room->length == 0)
         return;

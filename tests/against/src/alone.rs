@@ -1,4 +1,4 @@
-//! Sheets that are checked and maps that are opened by themselves, of every sort.
+//! Checks of a sheet alone and openings of a map alone, of every sort.
 
 use crate::builds::{self, Made};
 use crate::case::{Case, Lent, PLACINGS};
@@ -8,7 +8,7 @@ use crate::{damage_maps, damage_sheets, limits, lookups, maps};
 use paper::build::map_of;
 use paper::map::{self, HEADER};
 
-/// Once in so many maps it is one of the largest.
+/// One map in this many is one of the largest.
 const LARGEST_ONCE_IN: u64 = 20_000;
 
 /// Bytes, and what they are an example of.
@@ -19,17 +19,17 @@ fn lent(bytes: Vec<u8>, random: &mut Random) -> Lent {
     Lent { placing, bytes }
 }
 
-/// The check of a sheet, placed somehow.
+/// The check of a sheet, with a random placing.
 pub fn checked(sheet: Vec<u8>, random: &mut Random) -> Case {
     Case::Check(lent(sheet, random))
 }
 
-/// The opening of a map, placed somehow.
+/// The opening of a map, with a random placing.
 pub fn opened(map: Vec<u8>, random: &mut Random) -> Case {
     Case::Open(lent(map, random))
 }
 
-/// The check of a number.
+/// The check with a given case number.
 pub fn check(_: u64, random: &mut Random) -> Made {
     let (label, sheet) = match random.below(8) {
         0..=2 => {
@@ -45,7 +45,7 @@ pub fn check(_: u64, random: &mut Random) -> Made {
     }
 }
 
-/// Small random bytes, with length and version right for most.
+/// Random bytes of small value, mostly with the right length and version.
 fn random_sheet(random: &mut Random) -> Vec<u8> {
     let length = random.below(40);
     let mut sheet: Vec<u8> = (0..length).map(|_| random.below(20) as u8).collect();
@@ -55,7 +55,7 @@ fn random_sheet(random: &mut Random) -> Vec<u8> {
     sheet
 }
 
-/// The opening of a number.
+/// The opening with a given case number.
 pub fn open(number: u64, random: &mut Random) -> Made {
     let (label, map) = match random.below(16) {
         _ if number % LARGEST_ONCE_IN == LARGEST_ONCE_IN / 2 => largest(number, random),
@@ -83,7 +83,7 @@ fn of_any_face(random: &mut Random) -> Vec<u8> {
     maps::naming(&any, random)
 }
 
-/// With another version now and then, which is tested first.
+/// Sometimes with another version, which is tested first.
 fn at_limits(random: &mut Random) -> Vec<u8> {
     let mut bytes = of_any_face(random);
     bytes[4] = random.pick(&[1, 1, 1, 2]);
@@ -92,7 +92,7 @@ fn at_limits(random: &mut Random) -> Vec<u8> {
     bytes
 }
 
-/// Levels, classes and faces that may each be good or not, in a map of depth 0 or 1 whose length is told.
+/// Levels, classes and faces that may each be good or not, in a map of depth 0 or 1 with the right length.
 fn random_leaves(random: &mut Random) -> Vec<u8> {
     let mut root = plan::root(random, 1);
     root.d = random.below(2) as u8;

@@ -14,14 +14,14 @@ pub struct Made {
     pub case: Case,
 }
 
-/// Once in so many builds the map is one of the largest, of several megabytes.
+/// One map in this many is one of the largest, of several megabytes.
 const LARGEST_ONCE_IN: u64 = 20_000;
 const LARGEST_LEAVES: usize = 2_200_000;
 
-/// So many builds have smaller maps than later ones, so that the gate is quick under an emulator.
+/// The first builds, this many, have smaller maps than later ones, so that the gate is quick under an emulator.
 const QUICK: u64 = 20_000;
 
-/// The build of a number.
+/// The build with a given case number.
 pub fn any(number: u64, random: &mut Random) -> Made {
     if number.is_multiple_of(LARGEST_ONCE_IN) {
         let (plan, leaves) = largest(number / LARGEST_ONCE_IN, random);
@@ -41,7 +41,7 @@ pub fn any(number: u64, random: &mut Random) -> Made {
     lent(plan.label, plan.bytes(), &plan.root, buffer, random)
 }
 
-/// One of the largest maps, by turns of three sorts, and how many leaves it has.
+/// One of the largest maps, of three sorts in turn, and the number of its leaves.
 pub fn largest(turn: u64, random: &mut Random) -> (Plan, usize) {
     let mut plan = rooms::largest(turn, random);
     let (d, leaves) = plan::deepest(&plan.sheet(), &plan.root, 10, LARGEST_LEAVES);
@@ -64,7 +64,7 @@ pub fn sound(random: &mut Random) -> Plan {
     }
 }
 
-/// Small maps mostly, so that there can be many.
+/// Mostly small maps, so that there can be many.
 pub fn most_leaves(random: &mut Random) -> usize {
     match random.below(400) {
         0 => 8_000,
@@ -84,7 +84,7 @@ fn damaged(random: &mut Random) -> Made {
     lent(label, sheet, &root, buffer, random)
 }
 
-/// The length of a buffer where so many bytes are needed, and how the two compare.
+/// The length of a buffer when `needed` bytes are needed, and a label that says how the two compare.
 fn buffer(needed: usize, random: &mut Random) -> (&'static str, usize) {
     match random.below(8) {
         0..=2 => ("buffer: just long enough", needed),

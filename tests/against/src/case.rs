@@ -1,10 +1,10 @@
-//! A case: one request to the server, and what comes of it.
+//! A case: one request to the server, and its outcome.
 
 use paper::root::Root;
 use paper::Reply;
 
-/// The ways to place slices, by three bits: whether the sheet has its first byte against a guard page or its
-/// last, the same of out or the map, and whether a slice without bytes is null.
+/// The ways to place slices, in three bits: whether the sheet's first or last byte lies against a guard page,
+/// the same for out or the map, and whether an empty slice is null.
 pub const PLACINGS: usize = 8;
 
 /// The library's calls, in the header's order.
@@ -50,8 +50,8 @@ pub enum Case {
     Lookup(Lookup),
 }
 
-/// What a call gave: one reply, or one for each point of a lookup, every byte of out, and whether
-/// what is only read is as it was.
+/// The outcome of a call: one reply, or one for each point of a lookup; every byte of out; and whether
+/// what is only read is unchanged.
 #[derive(Clone, Debug, PartialEq, Eq)]
 pub struct Outcome {
     pub replies: Vec<Reply>,
@@ -74,7 +74,7 @@ impl Build {
 }
 
 impl Call {
-    /// What several of it are called.
+    /// The plural name.
     pub fn name(self) -> &'static str {
         ["checks", "builds", "opens", "lookups"][self as usize]
     }
@@ -90,7 +90,7 @@ impl Case {
         }
     }
 
-    /// How many calls of the library it is.
+    /// The number of library calls in it.
     pub fn calls(&self) -> usize {
         match self {
             Case::Lookup(lookup) => lookup.points.len(),
@@ -156,7 +156,7 @@ impl Case {
         bytes
     }
 
-    /// The case of a request, if it is one.
+    /// The case of a request, if the bytes are one.
     pub fn of_request(bytes: &[u8]) -> Option<Case> {
         let (&[first, placing], mut rest) = bytes.split_first_chunk()?;
         let call = CALLS.into_iter().find(|&call| letter(call) == first)?;
@@ -238,7 +238,7 @@ pub fn hex(bytes: &[u8]) -> String {
     bytes.iter().map(|byte| format!("{byte:02x}")).collect()
 }
 
-/// Bytes written in hex.
+/// The bytes of a hex string.
 pub fn of_hex(text: &str) -> Option<Vec<u8>> {
     let byte = |two: &[u8]| u8::from_str_radix(std::str::from_utf8(two).ok()?, 16).ok();
     text.as_bytes().chunks(2).map(byte).collect()
@@ -248,7 +248,7 @@ pub fn of_hex(text: &str) -> Option<Vec<u8>> {
 mod tests {
     use super::*;
 
-    /// A case that is printed in hex can be run again.
+    /// A case printed in hex can be run again.
     #[test]
     fn requests_are_read_back() {
         let root = Root {

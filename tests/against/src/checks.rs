@@ -13,7 +13,7 @@ use crate::slips::slips;
 use crate::tally::Tally;
 use std::time::Instant;
 
-/// How many random calls of each sort.
+/// The number of random calls of each sort.
 pub struct Sizes {
     pub checks: u64,
     pub builds: u64,
@@ -22,22 +22,22 @@ pub struct Sizes {
 }
 
 impl Sizes {
-    /// Damaged sheets, and as many maps, beside those of each byte.
+    /// The number of damaged sheets, and of damaged maps, beside those with a single byte changed.
     fn damaged(&self) -> u64 {
         self.builds / 5
     }
 
-    /// Builds and lookups held to what relates the calls.
+    /// The number of builds and lookups that the relations between calls are tested on.
     fn related(&self) -> u64 {
         self.builds / 5
     }
 
-    /// Sheets held to demand 3.
+    /// The number of sheets that demand 3 is tested on.
     fn sheets(&self) -> u64 {
         self.builds / 50
     }
 
-    /// Maps with a leaf turned over.
+    /// The number of maps with a leaf turned over.
     fn turned_over(&self) -> u64 {
         self.builds / 200
     }
@@ -78,7 +78,7 @@ fn groups(sizes: &Sizes) -> [Group; 6] {
     ]
 }
 
-/// A run of all checks: how many passed and failed so far, and what was covered.
+/// A run of all checks: the numbers passed and failed so far, and what was covered.
 struct Run<'a> {
     setup: &'a Setup,
     sizes: &'a Sizes,
@@ -101,7 +101,7 @@ const CHECKS: [(&str, Check); 7] = [
 ];
 
 impl Run<'_> {
-    /// Counts a check, with the time since the one before.
+    /// Counts a check, with the time since the previous one.
     fn count(&mut self, what: &str, good: bool) {
         let seconds = self.since.elapsed().as_secs_f64();
         self.since = Instant::now();
@@ -135,7 +135,7 @@ pub fn all(setup: &Setup, sizes: &Sizes) -> bool {
     run.failed == 0
 }
 
-/// A server that goes past a slice, or writes what is only lent for reading, stops.
+/// A server that goes past a slice, or writes to what is lent read-only, stops.
 fn guard_pages(run: &mut Run) -> Result<(), String> {
     let mut server = Server::named(&run.setup.library)?;
     let mut stopped = 0;
@@ -172,8 +172,8 @@ fn comparison(run: &mut Run) -> Result<(), String> {
     Ok(())
 }
 
-/// Each call gives all codes that it can, and reply 9 finds fault wherever it can. No input reaches 11:
-/// bounds over a cube hold the bounds over each cube in it, so a record that passes 2^60 over a smaller cube
+/// Each call gives all codes that it can, and reply 9 occurs with every sort of offset. No input reaches 11:
+/// bounds over a cube contain the bounds over each cube in it, so a record that passes 2^60 over a smaller cube
 /// passes it over the root.
 fn codes_reached(run: &mut Run) -> Result<(), String> {
     let covered = &run.covered;
@@ -190,7 +190,7 @@ fn codes_reached(run: &mut Run) -> Result<(), String> {
     Ok(())
 }
 
-/// The library's answers to different calls fit together.
+/// The library's answers to different calls are consistent.
 fn relations(run: &mut Run) -> Result<(), String> {
     let held = relations::run(run.setup, run.sizes.related())?;
     if let Some(told) = &held.broken {
@@ -205,7 +205,7 @@ fn relations(run: &mut Run) -> Result<(), String> {
     Ok(())
 }
 
-/// Each wrong rule is noticed by the comparison that found no difference.
+/// The comparison that found no difference notices each wrong rule.
 fn wrong_rules(run: &mut Run) -> Result<(), String> {
     let (mut noticed, mut of) = (0, 0);
     for slip in slips() {
@@ -255,7 +255,7 @@ fn demand_3(run: &mut Run) -> Result<(), String> {
     Ok(())
 }
 
-/// Maps that break demand 3 are noticed by the checks that found none.
+/// The checks that found demand 3 kept notice maps that break it.
 fn wrong_maps(run: &mut Run) -> Result<(), String> {
     let (turned, noticed) = demand3_run::turned_over(run.setup, run.sizes.turned_over())?;
     let strip = demand3_run::strip_is_noticed()?;
@@ -271,7 +271,7 @@ pub fn replay(setup: &Setup, case: &Case) -> Result<bool, String> {
     Ok(report(case, &mut Server::named(&setup.library)?))
 }
 
-/// Runs the case of a number of a group again.
+/// Runs one numbered case of a group again.
 pub fn one_case(setup: &Setup, sizes: &Sizes, name: &str, number: u64) -> Result<bool, String> {
     let all = groups(sizes);
     let group = all.iter().find(|group| group.name == name);

@@ -1,4 +1,4 @@
-//! Maps that are damaged, byte by byte and field by field.
+//! Damaged maps, byte by byte and field by field.
 
 use crate::random::Random;
 use paper::colour::GRAY;
@@ -48,7 +48,7 @@ pub fn damaged(map: &[u8], random: &mut Random) -> (&'static str, Vec<u8>) {
     (label, bytes)
 }
 
-/// Tells the length in the first four bytes.
+/// Writes the right length into the first four bytes.
 pub fn tell_length(map: &mut [u8]) {
     let length = map.len() as u32 - 4;
     map[..4].copy_from_slice(&length.to_be_bytes());
@@ -60,8 +60,8 @@ fn near(byte: u8, random: &mut Random) -> u8 {
     random.pick(&[less, more, 0, 255, any])
 }
 
-/// The offset of the first byte of some leaf. There is always one where this is asked, or the header's
-/// last three bytes stand for it.
+/// The offset of the first byte of some leaf. In a map without leaves, the header's last three bytes serve
+/// as one.
 fn leaf(map: &[u8], random: &mut Random) -> usize {
     let leaves = (map.len() - HEADER) / LEAF;
     if leaves == 0 {
@@ -131,7 +131,7 @@ fn swapped(map: &mut Bytes, random: &mut Random) {
     }
 }
 
-/// A leaf in place of up to eight, one level up: often good.
+/// One leaf in place of up to eight, one level up: often good.
 fn joined(map: &mut Bytes, random: &mut Random) {
     let at = leaf(map, random);
     let end = map.len().min(at + 8 * LEAF);
@@ -140,7 +140,7 @@ fn joined(map: &mut Bytes, random: &mut Random) {
     tell_length(map);
 }
 
-/// Eight leaves in place of one, a level down: good unless the level passes d.
+/// Eight leaves in place of one, one level down: good unless the level passes d.
 fn split(map: &mut Bytes, random: &mut Random) {
     let at = leaf(map, random);
     let down = map[at].saturating_add(1);

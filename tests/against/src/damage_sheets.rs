@@ -1,20 +1,20 @@
-//! Sheets that are damaged, byte by byte and field by field.
+//! Damaged sheets, byte by byte and field by field.
 
 use crate::random::Random;
 use paper::sheet::{self, Record, MOST_RECORDS};
 
-/// A sheet by its parts. What is written is these, whether they agree or not.
+/// The parts of a sheet, written as they are, whether they agree or not.
 struct Parts {
     length: Length,
     version: u8,
     /// Each record with its count byte.
     records: Vec<Vec<u8>>,
     after: Vec<u8>,
-    /// How many of all bytes are left.
+    /// The number of bytes to keep.
     cut: Option<usize>,
 }
 
-/// The first two bytes: as many as follow, or a number whatever follows.
+/// The first two bytes: the number of bytes that follow, or any number.
 enum Length {
     Told,
     Is(u16),
@@ -101,7 +101,7 @@ impl Parts {
         Some((number, self.records.get_mut(number)?))
     }
 
-    /// Puts records before the last until there are so many.
+    /// Inserts records before the last until there are as many as wanted.
     fn pad(&mut self, random: &mut Random, count: usize) {
         let before_last = self.records.len().saturating_sub(1);
         while self.records.len() < count {
@@ -143,7 +143,7 @@ fn count(parts: &mut Parts, random: &mut Random) {
     }
 }
 
-/// Its own number, a later one, any; in the first record with operands from some record on.
+/// In the first record with operands from a random one on: the record's own number, a later one, or any.
 fn operand(parts: &mut Parts, random: &mut Random) {
     let any = random.byte();
     let which = random.below(4);
@@ -241,7 +241,7 @@ fn under_3(parts: &mut Parts, random: &mut Random) {
     parts.cut = Some(random.below(3));
 }
 
-/// Records of the right form with any kinds and operands.
+/// Records with the right count for their kind, of random kinds and operands.
 fn random_records(parts: &mut Parts, random: &mut Random) {
     let forms: [(u8, &[u8]); 4] = [
         (1, &[2, 3, 4]),
@@ -260,7 +260,7 @@ fn random_records(parts: &mut Parts, random: &mut Random) {
     }
 }
 
-/// Just as long as its first two bytes can tell, or a byte longer, so that what they tell begins again at 0.
+/// The longest length that the first two bytes can hold, or one byte more, so that the length wraps to 0.
 fn longest(parts: &mut Parts, random: &mut Random) {
     let longest = usize::from(u16::MAX) + random.below(2);
     let missing = longest.saturating_sub(parts.body().len());

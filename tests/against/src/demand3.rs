@@ -1,5 +1,5 @@
 //! Demand 3 from outside: points of fractions against the leaves of maps that the library built, and white
-//! leaves against black ones, in one map and in two of one sheet.
+//! leaves against black ones, in one map and in two maps of one sheet.
 
 use crate::case::{hex, Build, Case};
 use crate::plan::{self, Plan};
@@ -12,33 +12,33 @@ use paper::map::{self, Leaf, HEADER, LEAF};
 use paper::root::{Cube, Root};
 use paper::sheet::{Record::*, Sheet};
 
-/// A map that the library built, its leaves with their cubes.
+/// A map that the library built: its leaves, with their cubes.
 pub struct Built {
     pub root: Root,
     pub leaves: Vec<(Cube, Leaf)>,
 }
 
-/// How many were held to the demand.
+/// How much was tested.
 #[derive(Default)]
 pub struct Counts {
     pub maps: u64,
     pub leaves: u64,
     pub points: u64,
-    /// A point with a closed leaf that it is in, by class.
+    /// Pairs of a point and a closed leaf that holds it, by class.
     pub by_class: [u64; 5],
-    /// A white and a black leaf, of one map and of two.
+    /// Pairs of a white and a black leaf, of one map and of two.
     pub pairs: u64,
     pub pairs_of_two_maps: u64,
-    /// Two roots of a sheet: overlapping, side by side, apart.
+    /// Pairs of roots of one sheet: overlapping, side by side, apart.
     pub roots: [u64; 3],
-    /// Two roots of which neither is a cube of the grid that the other lies in.
+    /// Pairs of roots of which neither is a cube of the other's grid.
     pub not_aligned: u64,
 }
 
-/// Points with high powers would need numbers of many thousands of digits.
+/// High powers at points of fractions would need numbers with many thousands of digits.
 const MOST_DEGREE: u32 = 24;
 
-/// A sheet whose values at fractions have small powers: a room, or a graph.
+/// A sheet whose values at points of fractions have small powers: a room or a graph.
 pub fn sheet(random: &mut Random) -> Plan {
     loop {
         let plan = match random.below(3) {
@@ -51,7 +51,7 @@ pub fn sheet(random: &mut Random) -> Plan {
     }
 }
 
-/// The greatest power of a point's denominator under a value of a record.
+/// The greatest power of a point's denominator in the value of any record.
 fn degree(sheet: &Sheet) -> u32 {
     let mut degrees: Vec<u32> = Vec::new();
     for record in &sheet.records {
@@ -67,7 +67,7 @@ fn degree(sheet: &Sheet) -> u32 {
     degrees.into_iter().fold(0, u32::max)
 }
 
-/// The library's map, opened; none if it refuses.
+/// The library's map, opened; None if the library refuses.
 pub fn built(plan: &Plan, leaves: usize, server: &mut Server) -> Result<Option<Built>, String> {
     let case = Case::Build(Build {
         placing: 0,
@@ -90,7 +90,7 @@ pub fn built(plan: &Plan, leaves: usize, server: &mut Server) -> Result<Option<B
     }))
 }
 
-/// Another root for the same sheet: moved by any number of units, or by just its side, and of any size.
+/// Another root for the same sheet: moved by any number of units or by exactly its side, and of any size.
 pub fn other_root(root: &Root, random: &mut Random) -> Root {
     loop {
         let mut other = *root;
@@ -114,7 +114,7 @@ pub fn other_root(root: &Root, random: &mut Random) -> Root {
     }
 }
 
-/// Counts how two roots lie to each other.
+/// Counts how two roots lie relative to each other.
 pub fn count_roots(a: &Cube, b: &Cube, counts: &mut Counts) {
     let overlaps = (0..3).all(|axis| a.low[axis] < b.high(axis) && b.low[axis] < a.high(axis));
     let how = match (overlaps, a.touches(b)) {
@@ -140,7 +140,7 @@ fn agrees(leaf: &Leaf, at: &Values) -> bool {
     }
 }
 
-/// A point with a closed leaf that it is in and does not agree with.
+/// A point and a closed leaf that holds it, but disagrees with it.
 pub fn wrong_leaf(
     sheet: &Sheet,
     leaves: &[(Cube, Leaf)],
@@ -180,7 +180,7 @@ fn of_class(leaves: &[(Cube, Leaf)], class: u8) -> Vec<Cube> {
     of_class.map(|(cube, _)| *cube).collect()
 }
 
-/// Points of a closed cube: its centre, corners, middles of edges and of sides, and any others.
+/// Points of a closed cube: its centre, corners, midpoints of edges and sides, and random ones.
 pub fn points_of(cube: &Cube, random: &mut Random) -> Vec<Point> {
     let mut points = vec![halves(cube, [1, 1, 1])];
     for _ in 0..3 {
@@ -191,7 +191,7 @@ pub fn points_of(cube: &Cube, random: &mut Random) -> Vec<Point> {
     points
 }
 
-/// The point so many halves of the side from the low corner.
+/// The point `steps` half sides from the low corner.
 fn halves(cube: &Cube, steps: [i64; 3]) -> Point {
     Point {
         numerators: [0, 1, 2].map(|axis| 2 * cube.low[axis] + steps[axis] * cube.side),
@@ -219,7 +219,7 @@ fn fraction(cube: &Cube, random: &mut Random) -> Point {
     }
 }
 
-/// A depth for a plan, and how many leaves its map has.
+/// Sets a plan's depth, and returns the number of leaves of its map.
 pub fn depth(plan: &mut Plan, random: &mut Random) -> usize {
     let most = match random.below(20) {
         0 => 12_000,

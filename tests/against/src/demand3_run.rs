@@ -1,4 +1,4 @@
-//! Runs of demand 3, and of maps that break it, which have to be noticed.
+//! Runs the checks of demand 3, and runs them on maps that break it, which they must notice.
 
 use crate::case::hex;
 use crate::demand3::{self, built, points_of, touching, wrong_leaf, Built, Counts};
@@ -14,7 +14,7 @@ use paper::map::{self, Leaf};
 use paper::root::{Cube, Root};
 use paper::sheet::{Record::*, Sheet};
 
-/// How many leaves of a map points are taken of.
+/// The number of leaves per map from which points are taken.
 const LEAVES_TRIED: usize = 8;
 
 impl Counts {
@@ -38,7 +38,7 @@ pub struct Found {
     pub touch: Option<String>,
 }
 
-/// Holds so many sheets, each with two maps, to the demand, on two servers.
+/// Tests the demand on `sheets` sheets, each with two maps, on two servers.
 pub fn run(setup: &Setup, sheets: u64) -> Result<Found, String> {
     let hold = |number, server: &mut Server, found: &mut Found| {
         let mut random = Random::of_case(setup.seed, "demand 3", number);
@@ -51,7 +51,7 @@ pub fn run(setup: &Setup, sheets: u64) -> Result<Found, String> {
     Ok(all)
 }
 
-/// Holds the two maps of one sheet to the demand.
+/// Tests the demand on the two maps of one sheet.
 fn one_sheet(random: &mut Random, server: &mut Server, found: &mut Found) -> Result<(), String> {
     let (plan, maps) = two_maps(random, server)?;
     let told = |wrong: String| format!("sheet {}: {wrong}", hex(&plan.bytes()));
@@ -69,7 +69,7 @@ fn one_sheet(random: &mut Random, server: &mut Server, found: &mut Found) -> Res
     Ok(())
 }
 
-/// A sheet with its maps over roots that overlap, lie side by side or are of other sizes: two, if neither
+/// A sheet and its maps over roots that overlap, lie side by side or differ in size: two maps, if neither
 /// is refused.
 fn two_maps(random: &mut Random, server: &mut Server) -> Result<(Plan, Vec<Built>), String> {
     let mut plan = demand3::sheet(random);
@@ -110,8 +110,8 @@ fn points_of_map(map: &Built, random: &mut Random) -> Vec<Point> {
     points
 }
 
-/// Turns one leaf of each of so many maps over: white to black, black to white, a face to its complement.
-/// Answers how many were turned, and how many of them points noticed.
+/// Turns over one leaf in each of some maps: white to black, black to white, a face to its complement.
+/// Returns how many were turned over, and how many of these the points noticed.
 pub fn turned_over(setup: &Setup, sheets: u64) -> Result<(u64, u64), String> {
     let mut server = Server::named(&setup.library)?;
     let (mut turned, mut noticed) = (0, 0);
@@ -136,7 +136,7 @@ pub fn turned_over(setup: &Setup, sheets: u64) -> Result<(u64, u64), String> {
     Ok((turned, noticed))
 }
 
-/// The leaves of a sheet's map over 0 to 4 at a depth, by a wrong colouring.
+/// The leaves of a sheet's map by a wrong colouring, over 0 to 4, at a depth.
 fn wrong_map(colouring: &Colouring, sheet: &Sheet, d: u8) -> Result<Vec<(Cube, Leaf)>, String> {
     let low = [0, 0, 0];
     let opened = map_by(colouring, sheet, &Root { low, k: 2, d })
@@ -145,7 +145,7 @@ fn wrong_map(colouring: &Colouring, sheet: &Sheet, d: u8) -> Result<Vec<(Cube, L
     Ok(opened.cubes().collect())
 }
 
-/// The strip with x from 1 to 2 misses every corner of a cube with x from 0 to 4: white by corners.
+/// The strip with x from 1 to 2 misses every corner of a cube with x from 0 to 4: sampling corners calls it white.
 pub fn strip_is_noticed() -> Result<bool, String> {
     let mut strip = crate::maker::Maker::default();
     let solid = strip.between(0, 1, 2);

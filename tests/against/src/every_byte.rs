@@ -1,4 +1,4 @@
-//! Each byte of some sheets and some maps, changed to other values, and each point about these maps.
+//! Each byte of some sheets and maps, changed to other values, and each point in and around these maps.
 
 use crate::alone;
 use crate::builds::Made;
@@ -13,7 +13,7 @@ use paper::build::map_of;
 use paper::root::Root;
 use paper::sheet::{self, Record::*};
 
-/// A small sheet and its root; each byte is changed to so many other values.
+/// A small sheet and its root; each byte is changed to `values` other values.
 struct Small {
     sheet: Vec<u8>,
     root: Root,
@@ -56,16 +56,16 @@ fn small() -> [Small; 3] {
     ]
 }
 
-/// How many calls take a sheet, and how many a map: each changed one is given to all of them.
+/// The number of calls that take a sheet, and that take a map: each changed one is given to all of them.
 const OF_SHEETS: u64 = 3;
 const OF_MAPS: u64 = 2;
 
-/// How many cases `sheets` has for each byte.
+/// The number of cases of `sheets` that change a single byte.
 pub fn sheet_cases() -> u64 {
     small().iter().map(Small::sheet_cases).sum()
 }
 
-/// How many cases `maps` has for each byte.
+/// The number of cases of `maps` that change a single byte.
 pub fn map_cases() -> u64 {
     small().iter().map(Small::map_cases).sum()
 }
@@ -79,7 +79,7 @@ impl Small {
         OF_MAPS * self.map().len() as u64 * self.values
     }
 
-    /// The call of a number that takes a sheet.
+    /// One of the calls that take a sheet, chosen by number.
     fn by_sheet(&self, call: u64, sheet: Vec<u8>, map: Vec<u8>, random: &mut Random) -> Case {
         match call % OF_SHEETS {
             0 => self.build(sheet, random),
@@ -88,7 +88,7 @@ impl Small {
         }
     }
 
-    /// The call of a number that takes a map.
+    /// One of the calls that take a map, chosen by number.
     fn by_map(&self, call: u64, map: Vec<u8>, random: &mut Random) -> Case {
         match call % OF_MAPS {
             0 => self.lookup(self.sheet.clone(), map, random),
@@ -105,7 +105,7 @@ impl Small {
         looked_up(sheet, map, vec![point], random)
     }
 
-    /// Each whole point of the root, of its high planes and of one layer more on every side, with the ends
+    /// Each whole point of the root, of its high planes and of one more layer on every side, and the extremes
     /// of 32 bits.
     fn points(&self) -> Vec<[i32; 3]> {
         let along = |axis: usize| {
@@ -139,7 +139,7 @@ fn looked_up(sheet: Vec<u8>, map: Vec<u8>, points: Vec<[i32; 3]>, random: &mut R
     })
 }
 
-/// Each point about the small map of a number, if there is one.
+/// Each point in and around one small map, chosen by number; None past the last.
 pub fn points(number: u64, random: &mut Random) -> Option<Made> {
     let small = small().into_iter().nth(number as usize)?;
     let labels = vec!["each point about a map"];
@@ -147,7 +147,7 @@ pub fn points(number: u64, random: &mut Random) -> Option<Made> {
     Some(Made { labels, case })
 }
 
-/// Changes the byte of a number to the value of a number, never to what it was.
+/// Changes one byte, chosen by number, always to another value.
 fn changed(bytes: &[u8], number: u64, small: &Small, random: &mut Random) -> Vec<u8> {
     let mut bytes = bytes.to_vec();
     let byte = &mut bytes[(number / small.values) as usize];
@@ -187,7 +187,7 @@ pub fn maps(mut number: u64, random: &mut Random) -> Made {
     damaged_map(number, random)
 }
 
-/// After the bytes the fields, of any sheet.
+/// A random sheet with a damaged field; these come after the single bytes.
 pub fn damaged_sheet(number: u64, random: &mut Random) -> Made {
     let (plan, map) = lookups::planned(random);
     let (label, sheet) = damage_sheets::damaged(&plan.records, random);
@@ -202,7 +202,7 @@ pub fn damaged_sheet(number: u64, random: &mut Random) -> Made {
     }
 }
 
-/// The fields of any map.
+/// A random map with a damaged field.
 pub fn damaged_map(number: u64, random: &mut Random) -> Made {
     let (plan, map) = lookups::planned(random);
     let (label, map) = damage_maps::damaged(&map, random);

@@ -1,9 +1,9 @@
-//! What document 01 says comes of a case.
+//! The outcome of a case by document 01.
 
 use crate::case::{Build, Case, Lookup, Outcome};
 use paper::{build, lookup, map, sheet, Refusal, Reply};
 
-/// What says what must come of a case. There is one by the paper, and one for each wrong rule.
+/// Gives the expected outcome of a case. There is one oracle by the paper, and one for each wrong rule.
 pub type Oracle = dyn Fn(&Case) -> Outcome + Sync;
 
 /// By the paper.
@@ -19,7 +19,7 @@ pub fn by_paper(case: &Case) -> Outcome {
     }
 }
 
-/// What comes of a call with one reply and no buffer.
+/// The outcome of a call with one reply and no buffer.
 pub fn of_reply(reply: Reply) -> Outcome {
     Outcome {
         replies: vec![reply],
@@ -28,7 +28,7 @@ pub fn of_reply(reply: Reply) -> Outcome {
     }
 }
 
-/// What comes of a build whose map, or refusal but for a short buffer, is this.
+/// The outcome of a build with this map, or with this refusal (reply 8 aside).
 pub fn of_map(asked: &Build, map: Result<Vec<u8>, Refusal>) -> Outcome {
     let mut out = asked.out_before();
     let reply = match map {
@@ -41,7 +41,7 @@ pub fn of_map(asked: &Build, map: Result<Vec<u8>, Refusal>) -> Outcome {
     }
 }
 
-/// What comes of lookups with these replies.
+/// The outcome of lookups with these replies.
 pub fn of_answers(asked: &Lookup, answer: &dyn Fn([i32; 3]) -> Reply) -> Outcome {
     Outcome {
         replies: asked.points.iter().map(|&point| answer(point)).collect(),

@@ -6,7 +6,7 @@ use paper::map::HEADER;
 use paper::root::{Cube, Root, FURTHEST};
 use paper::sheet::{self, Record, Sheet};
 
-/// What is true of something, with its name.
+/// The name of a feature, and whether it is present.
 type Named = (&'static str, bool);
 
 fn names(all: &[Named]) -> Vec<&'static str> {
@@ -14,7 +14,7 @@ fn names(all: &[Named]) -> Vec<&'static str> {
     true_ones.map(|(name, _)| *name).collect()
 }
 
-/// Of a build: its root and depth, and its sheet if that is good.
+/// Features of a build: its root and depth, and its sheet if that is good.
 pub fn of_build(build: &Build) -> Vec<&'static str> {
     let root = &build.root;
     let mut found = of_root(root);
@@ -90,7 +90,7 @@ fn of_bounds(sheet: &Sheet, root: &Root) -> Vec<&'static str> {
     }
 }
 
-/// Of a map's length.
+/// Features of a map's length.
 pub fn of_length(bytes: u64) -> &'static str {
     match bytes {
         0..=22 => "map built: one leaf",
@@ -101,7 +101,7 @@ pub fn of_length(bytes: u64) -> &'static str {
     }
 }
 
-/// Of a point of a lookup, by the root in the map's header; nothing if there is none.
+/// Features of a point of a lookup, by the root in the map's header; none without a header.
 pub fn of_point(lookup: &Lookup, point: [i32; 3]) -> Vec<&'static str> {
     let Some(header) = lookup.map.get(..HEADER) else {
         return vec![];

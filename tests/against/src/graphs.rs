@@ -1,4 +1,4 @@
-//! Random graphs of records: all kinds, records that nothing uses, operands that many share.
+//! Random graphs of records: all kinds, records that nothing uses, operands that several share.
 
 use crate::plan::{self, Plan};
 use crate::random::Random;
@@ -9,7 +9,7 @@ use paper::sheet::{
     Sheet, Sort, MOST_RECORDS,
 };
 
-/// A graph that is growing over its root.
+/// A graph under construction, with its root.
 struct Graph<'a> {
     random: &'a mut Random,
     sheet: Sheet,
@@ -22,7 +22,7 @@ pub fn tame(random: &mut Random) -> Plan {
     graph(random, "graph: in limits", true)
 }
 
-/// One that may pass 2^60 anywhere.
+/// A graph that may pass 2^60 anywhere.
 pub fn wild(random: &mut Random) -> Plan {
     graph(random, "graph: of any numbers", false)
 }
@@ -53,7 +53,7 @@ fn graph(random: &mut Random, label: &'static str, tame: bool) -> Plan {
 }
 
 impl Graph<'_> {
-    /// Grows to so many records, the last of them logical.
+    /// Grows to `size` records, the last of them logical.
     fn grow(&mut self, size: usize) {
         while self.sheet.records.len() + 1 < size {
             let room_for_aim = self.sheet.records.len() + 4 < size;
@@ -103,7 +103,7 @@ impl Graph<'_> {
         }
     }
 
-    /// Both, either or a complement; or a face where there is nothing to join.
+    /// Both, either or a complement; or a face, if there is no logical record yet.
     fn any_logical(&mut self) -> Record {
         if self.of_sort(Sort::Logical).is_empty() {
             return Face(self.operand(Sort::Arithmetic));
@@ -121,7 +121,7 @@ impl Graph<'_> {
         of_sort.map(|(number, _)| number).collect()
     }
 
-    /// A record of a sort, half of the time one of the latest.
+    /// A record of a sort, half the time one of the latest.
     fn operand(&mut self, sort: Sort) -> usize {
         let all = self.of_sort(sort);
         let from = if self.random.once_in(2) {
@@ -132,7 +132,7 @@ impl Graph<'_> {
         self.random.pick(&all[from..])
     }
 
-    /// A face that crosses the root: the operand less a constant between its bounds.
+    /// A face that crosses the root: of an operand minus a constant between its bounds.
     fn add_aimed_face(&mut self) {
         let operand = self.operand(Sort::Arithmetic);
         let Ok(all) = bounds::over(&self.sheet, &self.root.cube()) else {
@@ -157,7 +157,7 @@ impl Graph<'_> {
     }
 }
 
-/// Small ones, ones of the size of the root, powers of two and beside, the ends of 32 bits, and any.
+/// A constant: small, of the root's size, at or next to a power of two, an extreme of 32 bits, or any.
 pub fn constant(random: &mut Random, root: &Root) -> i32 {
     match random.below(10) {
         0..=3 => random.between(-9, 9) as i32,

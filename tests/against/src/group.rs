@@ -9,7 +9,7 @@ use crate::shrink;
 use crate::tally::Tally;
 use std::sync::atomic::{AtomicU64, Ordering};
 
-/// Makes the case of a number; the randomness is that case's own.
+/// Makes the case with a given number, from a random generator of its own.
 pub type Make = fn(u64, &mut Random) -> Made;
 
 pub struct Group {
@@ -25,12 +25,12 @@ pub struct Setup {
     pub library: String,
 }
 
-/// What runs this program, from the repository's top.
+/// The command that runs this program, from the top of the repository.
 const COMMAND: &str = "cargo run --release --offline --manifest-path tests/against/Cargo.toml \
                        --target-dir target/cargo --";
 
-/// Does some work for each number below a count, on two threads, as many as the smallest machine has cores
-/// for, each with a server and a result of its own. The work answers whether to go on.
+/// Does some work for each number below `count`, on two threads, one per core of the smallest machine, each
+/// with a server and a result of its own. The work returns whether to continue.
 pub fn on_two_servers<T: Default + Send>(
     setup: &Setup,
     count: u64,
@@ -58,7 +58,7 @@ pub fn on_two_servers<T: Default + Send>(
     Ok([first?, second?])
 }
 
-/// A case that the library answers otherwise than the oracle says.
+/// A case for which the library and the oracle differ.
 pub struct Difference {
     pub number: u64,
     pub case: Case,
@@ -69,8 +69,8 @@ impl Group {
         (self.make)(number, &mut Random::of_case(seed, self.name, number))
     }
 
-    /// Runs all cases. A difference is shrunk and printed. Answers what was covered, and whether there was
-    /// no difference.
+    /// Runs all cases. Shrinks and prints a difference. Returns what was covered, and whether there was no
+    /// difference.
     pub fn run(&self, setup: &Setup) -> Result<(Tally, bool), String> {
         let (tally, difference) = self.compare(setup, &by_paper)?;
         if let Some(found) = &difference {
@@ -92,7 +92,7 @@ impl Group {
         Ok((tally, difference.is_none()))
     }
 
-    /// Compares the library with an oracle, up to a difference.
+    /// Compares the library with an oracle, up to the first difference.
     pub fn compare(
         &self,
         setup: &Setup,
@@ -117,7 +117,7 @@ impl Group {
     }
 }
 
-/// Runs one case and prints both answers. Answers whether they are the same.
+/// Runs one case, prints both answers, and returns whether they are the same.
 pub fn report(case: &Case, server: &mut Server) -> bool {
     let (expected, given) = (by_paper(case), server.ask(case));
     println!("  the paper:   {}", answer(&expected));
@@ -134,7 +134,7 @@ pub fn report(case: &Case, server: &mut Server) -> bool {
     given == Ok(expected)
 }
 
-/// An outcome in one line; of a long buffer only the start.
+/// An outcome on one line, with only the start of a long buffer.
 fn answer(outcome: &Outcome) -> String {
     let replies = outcome.replies.iter();
     let replies: Vec<String> = replies

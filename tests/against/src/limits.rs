@@ -1,4 +1,4 @@
-//! Values at 2^60 and beside, and roots at their limits and beside.
+//! Values at and next to 2^60, and roots at and next to their limits.
 
 use crate::graphs;
 use crate::maker::Maker;
@@ -7,7 +7,7 @@ use crate::random::Random;
 use paper::root::{Root, FURTHEST};
 use paper::sheet::Record::*;
 
-/// A record whose bounds over the root end at 2^60 or -2^60, one beside or further off, used by the solid
+/// A record whose bounds over the root end at 2^60 or -2^60, one off it or further away, used by the solid
 /// or not.
 pub fn value(random: &mut Random) -> Plan {
     let k = random.between(0, 16) as u8;
@@ -57,7 +57,7 @@ fn at_the_end(random: &mut Random, root: &mut Root, axis: usize) {
     root.low[axis] = low as i32;
 }
 
-/// 2^60 or -2^60 as a product or a square of constants, or one that is far beyond.
+/// 2^60 or -2^60 as a product or a square of constants, or a number far beyond.
 fn by_constants(random: &mut Random, maker: &mut Maker) -> usize {
     match random.below(5) {
         0 => {
@@ -87,7 +87,7 @@ fn by_constants(random: &mut Random, maker: &mut Maker) -> usize {
     }
 }
 
-/// A coordinate at an end times 2^40: bounds that are wide, with 2^60 at one end or at both.
+/// A coordinate at its limit times 2^40: wide bounds, with 2^60 at one end or both.
 fn stretched(random: &mut Random, maker: &mut Maker, root: &mut Root) -> usize {
     let axis = random.below(3);
     at_the_end(random, root, axis);
@@ -106,7 +106,7 @@ fn stretched(random: &mut Random, maker: &mut Maker, root: &mut Root) -> usize {
     maker.add(Difference(left, shift))
 }
 
-/// The face alone, or joined with planes through the root so that cubes are split, or not used at all.
+/// The solid: the face alone, or joined with planes through the root so that cubes are split, or not used at all.
 fn other_faces(random: &mut Random, maker: &mut Maker, root: &Root, face: usize) -> usize {
     let mut plane = |maker: &mut Maker| {
         let axis = random.below(3);
@@ -129,7 +129,7 @@ fn other_faces(random: &mut Random, maker: &mut Maker, root: &Root, face: usize)
     }
 }
 
-/// A root at its limits or beside, far outside, or with k or d beyond theirs.
+/// A root at or next to its limits, or far outside, or with k or d out of limits.
 pub fn root_edges(random: &mut Random) -> Plan {
     let plan = graphs::tame(random);
     let k = match random.below(8) {

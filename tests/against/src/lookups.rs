@@ -8,13 +8,13 @@ use crate::{damage_maps, damage_sheets, every_byte, limits, maps};
 use paper::build::map_of;
 use paper::root::Root;
 
-/// How many points are looked up in a map.
+/// The number of points looked up in a map.
 pub const POINTS: usize = 4;
 
-/// Once in so many maps it is one of the largest.
+/// One map in this many is one of the largest.
 const LARGEST_ONCE_IN: u64 = 5_000;
 
-/// A sheet, a map and the root that the points lie about.
+/// A sheet, a map, and the root in and around which the points lie.
 struct Setting {
     label: &'static str,
     sheet: Vec<u8>,
@@ -22,7 +22,7 @@ struct Setting {
     root: Root,
 }
 
-/// The lookups of a number: first each point about some small maps.
+/// The lookups with a given case number. The first ones take each point in and around some small maps.
 pub fn any(number: u64, random: &mut Random) -> Made {
     if let Some(made) = every_byte::points(number, random) {
         return made;
@@ -49,7 +49,7 @@ pub fn any(number: u64, random: &mut Random) -> Made {
     }
 }
 
-/// A sheet with its own map, in limits.
+/// A sheet with the map built from it, in limits.
 pub fn planned(random: &mut Random) -> (Plan, Vec<u8>) {
     loop {
         let mut plan = builds::sound(random);
@@ -110,7 +110,7 @@ fn unbuilt(random: &mut Random) -> Setting {
     }
 }
 
-/// Values at 2^60 and beside, with a map of random leaves over their root.
+/// Values at and next to 2^60, with a map of random leaves over their root.
 fn beyond_limit(random: &mut Random) -> Setting {
     let plan = limits::value(random);
     let mut map = maps::unbuilt(&plan.sheet(), random);

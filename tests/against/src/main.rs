@@ -1,6 +1,6 @@
-//! Compares the proved library with document 01 in plain Rust, and holds its maps to demand 3.
+//! Compares the proved library with document 01 in plain Rust, and tests demand 3 on its maps.
 //!
-//! usage: against [SORT N].. [seed S] [library shipped|native]    all checks, with so many calls of a SORT:
+//! usage: against [SORT N].. [seed S] [library shipped|native]    all checks, with N calls of a SORT:
 //!                                                                 checks, builds, opens or lookups
 //!        against replay HEX [library ..]                          one case that was printed
 //!        against case GROUP NUMBER [seed S] [library ..]          one case of a group
@@ -38,7 +38,7 @@ use checks::Sizes;
 use group::Setup;
 use std::process::ExitCode;
 
-/// What the command line sets, by words two by two.
+/// The settings of the command line, in pairs of words.
 fn settings(words: &[&str]) -> Result<(Setup, Sizes), String> {
     let mut setup = Setup {
         seed: 1,

@@ -2,11 +2,11 @@
 
 use paper::sheet::Record::{self, *};
 
-/// The records so far. Each method answers a record's number.
+/// The records so far. Each method returns a record's number.
 #[derive(Default)]
 pub struct Maker {
     pub records: Vec<Record>,
-    /// Whether a record that is already there is used again.
+    /// Whether to reuse an equal record that is already there.
     pub share: bool,
 }
 
@@ -35,7 +35,7 @@ impl Maker {
         self.add(Face(difference))
     }
 
-    /// Along an axis, from low to high.
+    /// The points from low to high along an axis.
     pub fn between(&mut self, axis: usize, low: i64, high: i64) -> usize {
         let (low, high) = (self.constant(low), self.constant(high));
         let at = self.axis(axis);
@@ -44,14 +44,14 @@ impl Maker {
         self.add(Both(from, to))
     }
 
-    /// All heights over a rectangle of the floor.
+    /// A rectangle of the floor, at all heights.
     pub fn rectangle(&mut self, x: [i64; 2], y: [i64; 2]) -> usize {
         let over_x = self.between(0, x[0], x[1]);
         let over_y = self.between(1, y[0], y[1]);
         self.add(Both(over_x, over_y))
     }
 
-    /// The sum of the squares of the distances from a centre, along the first so many axes.
+    /// The squared distance from a centre, along as many axes as the centre has.
     pub fn distance_squared(&mut self, centre: &[i64]) -> usize {
         let mut total = None;
         for (axis, &at) in centre.iter().enumerate() {
@@ -85,7 +85,7 @@ impl Maker {
         self.at_most(left, right)
     }
 
-    /// The records with this one as the solid: the last.
+    /// The records, with this one made the last and so the solid.
     pub fn with_solid(mut self, solid: usize) -> Vec<Record> {
         if solid + 1 != self.records.len() {
             self.records.push(self.records[solid].clone());

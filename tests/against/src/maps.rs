@@ -1,4 +1,4 @@
-//! Maps that are built from nothing, and points to look up.
+//! Maps of random leaves, and points to look up.
 
 use crate::plan;
 use crate::random::Random;
@@ -7,7 +7,7 @@ use paper::map::{self, Leaf};
 use paper::root::{Cube, Root};
 use paper::sheet::Sheet;
 
-/// A map of random leaves. Terminal ones name faces of the sheet, but for one map in eight.
+/// A map of random leaves. In seven maps of eight, terminal ones name faces of the sheet.
 pub fn unbuilt(sheet: &Sheet, random: &mut Random) -> Vec<u8> {
     let may_be_any = random.once_in(8);
     let may_name = |&number: &u8| may_be_any || sheet.is_face(number.into());
@@ -25,7 +25,7 @@ pub fn naming(faces: &[u8], random: &mut Random) -> Vec<u8> {
     map::write(&root, &leaves)
 }
 
-/// Splits until a few hundred leaves are there.
+/// Splits until there are a few hundred leaves.
 fn add_random(leaves: &mut Vec<Leaf>, random: &mut Random, faces: &[u8], d: u8, level: u8) {
     let often = if leaves.len() < 200 { 2 } else { 50 };
     let splits = level < d && (level == 0 || random.once_in(often));
@@ -49,8 +49,8 @@ fn add_random(leaves: &mut Vec<Leaf>, random: &mut Random, faces: &[u8], d: u8, 
     leaves.push(Leaf { level, colour });
 }
 
-/// A point about a root: on, beside or outside a plane of it or of a cube in it, anywhere in it, or at the
-/// ends of 32 bits.
+/// A point in or around a root: on, next to or outside a plane of it or of a cube in it, anywhere in it, or at
+/// the extremes of 32 bits.
 pub fn point(root: &Root, random: &mut Random) -> [i32; 3] {
     let cube = cube_in(root, random);
     let far = random.once_in(12);

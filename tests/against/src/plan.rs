@@ -1,4 +1,4 @@
-//! A sheet and a root to build it over, what it is an example of, and how deep a map of it may be.
+//! A sheet and a root to build it over, what it is an example of, and how deep its map may be.
 
 use crate::random::Random;
 use paper::colour::{self, GRAY};
@@ -22,7 +22,7 @@ impl Plan {
         paper::sheet::write(&self.records)
     }
 
-    /// Chooses a depth whose map has at most so many leaves. Answers how many: none if it is refused.
+    /// Chooses a depth whose map has at most `most_leaves` leaves. Returns the number of leaves: 0 if the build is refused.
     pub fn choose_depth(&mut self, random: &mut Random, most_leaves: usize) -> usize {
         let wanted = random.between(0, i64::from(self.root.k.min(10))) as u8;
         let wanted = wanted.max(random.between(0, i64::from(self.root.k.min(10))) as u8);
@@ -53,7 +53,7 @@ pub fn root(random: &mut Random, k: u8) -> Root {
     }
 }
 
-/// The greatest depth, at most the wanted one, whose map has at most so many leaves, and how many it has.
+/// The greatest depth up to the wanted one whose map has at most `most_leaves` leaves, and the number of its leaves.
 pub fn deepest(sheet: &Sheet, root: &Root, wanted: u8, most_leaves: usize) -> (u8, usize) {
     let is_gray = |cube: &Cube| colour::colour(sheet, cube).map(|colour| colour.class == GRAY);
     let mut grays = match is_gray(&root.cube()) {
@@ -73,7 +73,7 @@ pub fn deepest(sheet: &Sheet, root: &Root, wanted: u8, most_leaves: usize) -> (u
     (wanted, leaves)
 }
 
-/// The root with a depth at which a sheet, damaged or not, has a map of at most so many leaves.
+/// The root with a depth at which a sheet, damaged or not, has a map of at most `most_leaves` leaves.
 pub fn shallow(bytes: &[u8], root: &Root, most_leaves: usize) -> Root {
     match paper::sheet::read(bytes) {
         Ok(sheet) if root.in_limits() => {

@@ -1,10 +1,10 @@
-//! Numbers that look random and are the same for the same seed.
+//! Pseudo-random numbers, the same for the same seed.
 
 /// A splitmix64 generator.
 pub struct Random(u64);
 
 impl Random {
-    /// The generator of one case of a group: the same however many cases run, and in whatever order.
+    /// The generator of one case of a group: the same however many cases run, in any order.
     pub fn of_case(seed: u64, group: &str, case: u64) -> Random {
         let parts = group.bytes().map(u64::from).chain([case]);
         Random(parts.fold(seed, |mixed, part| Random(mixed ^ part).word()))
@@ -31,7 +31,7 @@ impl Random {
         self.word() as u8
     }
 
-    /// True once in so many times.
+    /// True once in n times on average.
     pub fn once_in(&mut self, n: usize) -> bool {
         self.below(n) == 0
     }

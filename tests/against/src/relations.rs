@@ -1,4 +1,4 @@
-//! What has to hold between the library's own answers, whatever the paper says of each.
+//! Relations that must hold between the library's own answers, whatever the paper says of each.
 
 use crate::builds::Made;
 use crate::case::{hex, Case, Lent, Outcome};
@@ -10,7 +10,7 @@ use paper::colour::{TERMINAL, TERMINAL_COMPLEMENT};
 use paper::map::{HEADER, LEAF};
 use paper::Reply;
 
-/// How often each relation was put to the test, and what broke one.
+/// How often each relation was tested, and what broke one.
 #[derive(Default)]
 pub struct Held {
     pub sheets_refused: u64,
@@ -19,10 +19,10 @@ pub struct Held {
     pub broken: Option<String>,
 }
 
-/// What answers a case.
+/// Runs a case, and returns its outcome.
 type Ask<'a> = dyn FnMut(&Case) -> Result<Outcome, String> + 'a;
 
-/// Holds so many builds and lookups to the relations, on two servers, up to one that breaks them.
+/// Tests the relations on `cases` builds and lookups, on two servers, up to one that breaks them.
 pub fn run(setup: &Setup, cases: u64) -> Result<Held, String> {
     let hold = |number, server: &mut Server, held: &mut Held| {
         let made = any(
@@ -40,7 +40,7 @@ pub fn run(setup: &Setup, cases: u64) -> Result<Held, String> {
     Ok(all)
 }
 
-/// A build or a lookup, with good and damaged sheets and maps by turns.
+/// A build or a lookup, with good and damaged sheets and maps in turn.
 fn any(number: u64, random: &mut Random) -> Made {
     match number % 4 {
         0 => builds::any(number + 1, random),
@@ -51,7 +51,7 @@ fn any(number: u64, random: &mut Random) -> Made {
 }
 
 impl Held {
-    /// Asks a case, and then the calls that take its sheet or a map alone.
+    /// Runs a case, and then the calls that take its sheet or its map alone.
     fn hold(&mut self, case: &Case, ask: &mut Ask) -> Result<(), String> {
         let given = ask(case)?;
         let lent = |bytes: &[u8]| Lent {
@@ -84,7 +84,7 @@ impl Held {
         }
     }
 
-    /// A sheet that a check refuses is refused alike by the other calls, and no other sheet is.
+    /// A sheet that a check refuses gets the same refusal from the other calls, and no other sheet does.
     fn sheet(&mut self, case: &Case, given: &Outcome, checked: Reply) {
         self.sheets_refused += u64::from(checked.code != 0);
         let holds = given.replies.iter().all(|reply| match checked.code {
@@ -94,8 +94,8 @@ impl Held {
         self.expect(case, holds, "zone_check answers otherwise of the sheet");
     }
 
-    /// A map that does not open is refused there or before by a lookup with a good sheet, and one that opens
-    /// only at a terminal leaf.
+    /// A lookup with a good sheet refuses a map that does not open, at the same offset or an earlier one. It refuses a
+    /// map that opens only at a terminal leaf.
     fn map(&mut self, case: &Case, given: &Outcome, opened: Reply, map: &[u8]) {
         self.maps_refused += u64::from(opened.code != 0);
         let is_terminal = |offset: u64| {
@@ -128,7 +128,7 @@ mod tests {
     use crate::case::Call;
     use crate::expect::by_paper;
 
-    /// Holds some cases to the relations, answered by the paper but for the replies of one call.
+    /// Tests the relations on some cases answered by the paper, with the replies of one call changed.
     fn held(call: Call, change: fn(&mut Reply)) -> Held {
         let mut held = Held::default();
         for number in 0..200 {

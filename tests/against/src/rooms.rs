@@ -6,7 +6,7 @@ use crate::random::Random;
 use paper::root::Root;
 use paper::sheet::Record::*;
 
-/// A room that is being drawn, about its root.
+/// A room under construction, with its root.
 struct Drawing<'a> {
     random: &'a mut Random,
     maker: Maker,
@@ -37,7 +37,7 @@ pub fn room(random: &mut Random) -> Plan {
     drawn(random, root, label, shape)
 }
 
-/// The largest maps, by turns: of solids that are gray in a half of the root, all over a sphere, and
+/// The largest maps, in turn: of solids that are gray in half of the root, all over a sphere, and
 /// everywhere.
 pub fn largest(turn: u64, random: &mut Random) -> Plan {
     let root = plan::root(random, 12);
@@ -46,7 +46,7 @@ pub fn largest(turn: u64, random: &mut Random) -> Plan {
     drawn(random, root, "room: of the largest maps", shape)
 }
 
-/// The bounds of x - x hold 0 in every cube, and a face joined with itself is gray.
+/// The bounds of x - x contain 0 in every cube, and a face joined with itself is gray.
 fn gray(drawing: &mut Drawing) -> usize {
     let x = drawing.maker.axis(0);
     let vague = drawing.maker.at_most(x, x);
@@ -88,7 +88,7 @@ fn drawn(random: &mut Random, root: Root, label: &'static str, shape: Shape) -> 
 }
 
 impl Drawing<'_> {
-    /// A size up to the root's side, more often a small one.
+    /// A size up to the root's side, usually small.
     fn size(&mut self) -> i64 {
         let most = self.random.between(1, 1 << self.root.k);
         self.random.between(1, most)
@@ -105,13 +105,13 @@ impl Drawing<'_> {
         [0, 1, 2].map(|axis| self.along(axis))
     }
 
-    /// From a coordinate to a later one.
+    /// Two coordinates in rising order.
     fn stretch(&mut self, axis: usize) -> [i64; 2] {
         let low = self.along(axis);
         [low, low + self.size()]
     }
 
-    /// What is over a floor plan, from floor to ceiling.
+    /// The space over a floor plan, from floor to ceiling.
     fn storey(&mut self, floor_plan: usize) -> usize {
         let z = self.stretch(2);
         let heights = self.maker.between(2, z[0], z[1]);
@@ -152,7 +152,7 @@ fn torus(drawing: &mut Drawing) -> usize {
     drawing.maker.add(Both(ring, cut))
 }
 
-/// Two rectangles from one corner: they share two walls.
+/// Two rectangles with a common corner, which share two walls.
 fn l_shape(drawing: &mut Drawing) -> usize {
     let (x, y) = (drawing.stretch(0), drawing.stretch(1));
     let (wide, long) = (drawing.size(), drawing.size());
@@ -173,7 +173,7 @@ fn round_bay(drawing: &mut Drawing) -> usize {
     drawing.storey(floor_plan)
 }
 
-/// Two rooms with a wall one unit thin between them, across x or y.
+/// Two rooms with a wall one unit thick between them, across x or y.
 fn thin_wall(drawing: &mut Drawing) -> usize {
     let across = drawing.random.below(2);
     let wall = drawing.along(across);

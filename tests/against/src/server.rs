@@ -1,5 +1,5 @@
-//! The library behind the server of tests/serve, so that it runs on a machine of any kind and a call that
-//! reaches past a slice is seen.
+//! Calls the library through the server of tests/serve, so that it runs on any machine and a call that
+//! reaches past a slice is noticed.
 
 use crate::case::{Case, Outcome};
 use paper::Reply;
@@ -13,7 +13,7 @@ pub const TRESPASSES: [(u8, &str); 3] = [
     (2, "a write into a sheet"),
 ];
 
-/// A server, started when it is first asked and again after it stopped.
+/// A server, started at the first request and again after it has stopped.
 pub struct Server {
     command: Vec<String>,
     running: Option<Running>,
@@ -37,7 +37,7 @@ impl Server {
         })
     }
 
-    /// What the library does with a case, or how the server stopped.
+    /// The library's outcome for a case, or how the server stopped.
     pub fn ask(&mut self, case: &Case) -> Result<Outcome, String> {
         self.send(&case.request(), |from| {
             let replies: std::io::Result<_> = (0..case.calls()).map(|_| reply(from)).collect();
@@ -49,7 +49,7 @@ impl Server {
         })
     }
 
-    /// Has the server do what no library may. Answers whether that stopped it as it should.
+    /// Makes the server do what no library may. Returns whether that stopped it as it should.
     pub fn is_stopped_by(&mut self, trespass: u8) -> bool {
         match self.send(&[b't', trespass], |from| take::<1>(from)) {
             Ok(_) => false,
@@ -57,7 +57,7 @@ impl Server {
         }
     }
 
-    /// Sends a request and takes what comes back; if the server stops, tells how.
+    /// Sends a request and returns what comes back or, if the server stops, how it stopped.
     fn send<T>(
         &mut self,
         request: &[u8],

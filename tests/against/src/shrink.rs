@@ -1,4 +1,4 @@
-//! Makes a case that shows a difference smaller, as long as it still shows one.
+//! Shrinks a case that shows a difference, as long as it still shows one.
 
 use crate::case::{Build, Case, Lent, Lookup};
 use crate::damage_maps::tell_length;
@@ -15,7 +15,7 @@ const MOST_TIME: Duration = Duration::from_secs(60);
 /// A sheet with fewer records may have a map of a billion leaves; such a case is not tried.
 const MOST_LEAVES: usize = 5_000;
 
-/// The smallest case that was found, by taking the first smaller one that still differs, again and again.
+/// The smallest case found by repeatedly taking the first smaller one that still differs.
 pub fn shrunk(case: &Case, server: &mut Server) -> Case {
     smallest(case, &mut |smaller| {
         server.ask(smaller) != Ok(by_paper(smaller))
@@ -39,10 +39,10 @@ fn smallest(case: &Case, differs: &mut dyn FnMut(&Case) -> bool) -> Case {
     best
 }
 
-/// Things made one by one, as they are tried: a map may be large, and there are many smaller ones.
+/// Candidates, made lazily, since a map may be large and there are many smaller ones.
 type Tries<'a, T> = Box<dyn Iterator<Item = T> + 'a>;
 
-/// Cases that are a little simpler, the greatest steps first.
+/// Slightly simpler cases, the largest steps first.
 fn smaller(case: &Case) -> Tries<'_, Case> {
     match case {
         Case::Check(lent) => {
@@ -124,7 +124,7 @@ fn smaller_roots(root: &Root) -> Vec<Root> {
     roots
 }
 
-/// A good sheet by its records, another by its bytes.
+/// Shrinks a good sheet by its records, any other by its bytes.
 fn smaller_sheets(bytes: &[u8]) -> Tries<'_, Vec<u8>> {
     match sheet::read(bytes) {
         Ok(sheet) => Box::new(smaller_records(&sheet).into_iter()),
@@ -160,8 +160,8 @@ fn simpler_constants(record: &Record) -> Vec<i32> {
     }
 }
 
-/// The records without one; what used it uses another instead. None if that is no earlier one of the same
-/// sort and it is used.
+/// The records without one; records that used it use `instead`. None if it is used and `instead` is not an
+/// earlier record of the same sort.
 fn without(records: &[Record], dropped: usize, instead: usize) -> Option<Vec<Record>> {
     let used = records.iter().any(|r| r.operands().contains(&dropped));
     if used && (instead >= dropped || records[instead].sort() != records[dropped].sort()) {
@@ -195,7 +195,7 @@ fn renumbered(record: &Record, to: &dyn Fn(usize) -> usize) -> Record {
     }
 }
 
-/// A byte left out, with the length told again and not; or set to 0.
+/// A byte left out, with and without the length corrected; or set to 0.
 fn without_byte(bytes: &[u8], at: usize) -> Vec<Vec<u8>> {
     let zeroed = with(&bytes.to_vec(), |other| other[at] = 0);
     let left = [&bytes[..at], &bytes[at + 1..]].concat();
@@ -207,7 +207,7 @@ fn without_byte(bytes: &[u8], at: usize) -> Vec<Vec<u8>> {
     vec![told, left, zeroed]
 }
 
-/// The first half of the leaves; eight leaves taken for one; a leaf left out; a byte set to 0.
+/// The first half of the leaves; eight leaves merged into one; a leaf left out; a byte set to 0.
 fn smaller_maps(map: &[u8]) -> impl Iterator<Item = Vec<u8>> + '_ {
     let leaves = map.len().saturating_sub(HEADER) / LEAF;
     let offset = |leaf: usize| HEADER + LEAF * leaf;
@@ -233,7 +233,7 @@ mod tests {
     use crate::builds;
     use crate::random::Random;
 
-    /// Whatever the difference is, here that a square is used, what is left is what it takes.
+    /// What remains is what the difference needs: here, a square.
     #[test]
     fn a_case_becomes_small() {
         let is_square = |record: &Record| matches!(record, Record::Square(_));

@@ -8,7 +8,7 @@ use crate::wrong_lookups::*;
 use crate::wrong_reads::*;
 use crate::{alone, builds, every_byte, lookups};
 
-/// A wrong rule: what it is, the cases that show it, and the oracle that follows it.
+/// A wrong rule: its description, the cases that show it, and the oracle that follows it.
 pub struct Slip {
     pub name: &'static str,
     pub group: Group,
@@ -19,7 +19,7 @@ type Wrong = fn(&Case) -> Outcome;
 
 const CASES: u64 = 6_000;
 
-/// The build of number 0 has one of the largest maps, which no wrong rule needs.
+/// Build 0 has one of the largest maps, which no wrong rule needs.
 const BUILDING: Make = |number, random| builds::any(number + 1, random);
 const LOOKING: Make = lookups::any;
 const CHECKING: Make = alone::check;

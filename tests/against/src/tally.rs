@@ -9,23 +9,23 @@ use std::collections::BTreeMap;
 /// Codes 0 to 11.
 pub const CODES: usize = 12;
 
-/// Where reply 9 finds fault: the length, the version, root or depth, a leaf, or leaves that stop short.
+/// The sorts of offset in reply 9: length, version, root or depth, a leaf, leaves that stop short.
 const OFFSETS: usize = 5;
 
 type Counted = BTreeMap<&'static str, u64>;
 
 #[derive(Default)]
 pub struct Tally {
-    /// What cases were made as, and what they have.
+    /// Labels of the cases, and their features.
     labels: Counted,
     features: Counted,
     /// By call, and then by code.
     codes: [[u64; CODES]; CALLS.len()],
-    /// By call, and then by where reply 9 found fault.
+    /// By call, and then by the sort of offset in reply 9.
     offsets: [[u64; OFFSETS]; CALLS.len()],
     /// Of lookups that were answered: outside, inside, undecided.
     answers: [u64; 3],
-    /// Of builds that were done.
+    /// Of builds that gave code 0.
     sides: [u64; 17],
     depths: [u64; 11],
     longest_map: u64,
@@ -113,12 +113,12 @@ impl Tally {
         (0..CODES).filter(|&code| counts[code] > 0).collect()
     }
 
-    /// Whether reply 9 of a call found fault in each of the places where it can.
+    /// Whether a call gave reply 9 with every sort of offset.
     pub fn reached_all_offsets(&self, call: Call) -> bool {
         self.offsets[call as usize].iter().all(|&count| count > 0)
     }
 
-    /// How many calls there were, as '20 builds, 3 lookups'.
+    /// The number of calls, as in '20 builds, 3 lookups'.
     pub fn calls(&self) -> String {
         let counted = CALLS.map(|call| (self.codes[call as usize].iter().sum::<u64>(), call));
         let made = counted.iter().filter(|(count, _)| *count > 0);
@@ -128,7 +128,7 @@ impl Tally {
         texts.join(", ")
     }
 
-    /// Prints how many there were of each sort, a line each.
+    /// Prints the number of calls of each sort, one per line.
     pub fn print_sorts(&self) {
         println!("  calls by what they were made as:");
         print_counted(&self.labels);
@@ -136,7 +136,7 @@ impl Tally {
         print_counted(&self.features);
     }
 
-    /// Prints what calls came to.
+    /// Prints the outcomes of the calls.
     pub fn print_outcomes(&self) {
         println!("  what came of them:");
         for call in CALLS {
@@ -167,7 +167,7 @@ fn print_counted(counted: &Counted) {
     }
 }
 
-/// Adds counts to counts, one by one.
+/// Adds counts elementwise.
 pub fn add_each(to: &mut [u64], from: &[u64]) {
     for (total, count) in to.iter_mut().zip(from) {
         *total += count;

@@ -11,10 +11,10 @@ use paper::root::{Cube, Root};
 use paper::sheet::{self, Record, Sheet};
 use paper::Reply;
 
-/// Deeper maps by a wrong rule may have millions of leaves.
+/// Deeper maps built by a wrong rule may have millions of leaves.
 const DEEPEST: u8 = 4;
 
-/// The outcome of a build by another colouring and over another root; of any other case, what the paper says.
+/// The outcome of a build by another colouring and over another root; for any other case, the paper's outcome.
 fn built(case: &Case, colouring: &Colouring, over: impl Fn(&Root) -> Root) -> Outcome {
     let asked = match case {
         Case::Build(asked) if asked.root.d <= DEEPEST => asked,
@@ -49,7 +49,7 @@ pub fn k_at_most_15(case: &Case) -> Outcome {
     })
 }
 
-/// All corners inside is black, none is white.
+/// Black if all corners are inside, white if none is.
 pub fn corners(sheet: &Sheet, cube: &Cube) -> Result<Colour, usize> {
     bounds::over(sheet, cube)?;
     let corner = |number: usize| {
@@ -122,7 +122,7 @@ pub fn z_reads_y(sheet: &Sheet, cube: &Cube) -> Result<Colour, usize> {
     })
 }
 
-/// The paper's colour, by other rules on states.
+/// The paper's colour, by other rules for states.
 fn by_rules(sheet: &Sheet, cube: &Cube, rules: &Rules) -> Result<Colour, usize> {
     let bounds = bounds::over(sheet, cube)?;
     Ok(colour::class(colour::solid(rules, sheet, &bounds)))
@@ -170,7 +170,7 @@ pub fn limit_refused(sheet: &Sheet, cube: &Cube) -> Result<Colour, usize> {
     }
 }
 
-/// Child number = z half + 2 (y half) + 4 (x half): each cube is coloured as the one across.
+/// Child number = z half + 2 (y half) + 4 (x half): each cube gets the colour of its mirror image, with x and z exchanged.
 pub fn z_first(case: &Case) -> Outcome {
     let Case::Build(asked) = case else {
         return by_paper(case);

@@ -4,7 +4,7 @@ use crate::case::{Case, Lookup, Outcome};
 use crate::expect::{by_paper, of_answers};
 use paper::{lookup, map, reply, sheet, Reply};
 
-/// The outcome of lookups by another rule; of any other case, what the paper says.
+/// The outcome of lookups by another rule; for any other case, the paper's outcome.
 fn looked_up(case: &Case, rule: &dyn Fn(&Lookup, [i32; 3]) -> Reply) -> Outcome {
     match case {
         Case::Lookup(asked) => of_answers(asked, &|point| rule(asked, point)),

@@ -23,7 +23,7 @@ pub fn offsets_from_record(case: &Case) -> Outcome {
     })
 }
 
-/// Reply 4 for a record before the one that reply 3 is for.
+/// Gives reply 4 for a record that comes before the one reply 3 names.
 pub fn operands_early(case: &Case) -> Outcome {
     changed_replies(case, |given| {
         if let (3, Some(sheet)) = (given.code, case.sheet()) {
@@ -46,7 +46,7 @@ pub fn solid_without_count(case: &Case) -> Outcome {
     })
 }
 
-/// The number of the last record, in place of how many there are.
+/// The number of the last record instead of the number of records.
 pub fn last_record(case: &Case) -> Outcome {
     changed_replies(case, |reply| {
         if let (0, Case::Check(_)) = (reply.code, case) {
@@ -55,7 +55,7 @@ pub fn last_record(case: &Case) -> Outcome {
     })
 }
 
-/// Faces of logical records are read as complements, which have the same form and such operands.
+/// Accepts faces of logical records: they are read as complements, which have the same form and logical operands.
 pub fn face_of_face(case: &Case) -> Outcome {
     changed_replies(case, |given| {
         if let (4, Case::Check(lent)) = (given.code, case) {
@@ -72,7 +72,7 @@ pub fn face_of_face(case: &Case) -> Outcome {
     })
 }
 
-/// The bytes that follow the length, three to a leaf.
+/// Counts leaves as all bytes after the length, divided by three.
 pub fn leaves_by_length(case: &Case) -> Outcome {
     changed_replies(case, |given| {
         if let (0, Case::Open(lent)) = (given.code, case) {
@@ -81,7 +81,7 @@ pub fn leaves_by_length(case: &Case) -> Outcome {
     })
 }
 
-/// With no sheet there is no face to name.
+/// Without a sheet, accepts no face that a leaf names.
 pub fn faces_demanded(case: &Case) -> Outcome {
     changed_replies(case, |given| {
         if let Case::Open(lent) = case {
@@ -114,7 +114,7 @@ pub fn no_leaves_length(case: &Case) -> Outcome {
     })
 }
 
-/// What the paper says of the case with another map.
+/// The paper's outcome of the case with another map.
 fn by_other_map(case: &Case, change: impl Fn(&mut Vec<u8>)) -> Outcome {
     let mut other = case.clone();
     match &mut other {
@@ -162,7 +162,7 @@ pub fn map_prefix(case: &Case) -> Outcome {
     })
 }
 
-/// Leaves that follow where all places are taken are let be.
+/// Accepts leaves that follow when all places are taken.
 pub fn stops_when_full(case: &Case) -> Outcome {
     by_other_map(case, |map| {
         let given = map::open(map);

@@ -58,8 +58,8 @@ impl Interval {
     }
 }
 
-/// The bounds of all records over a closed cube, of none that is logical; or the first record whose
-/// bounds pass 2^60. Its ends are exact: what it is worked out from has passed nothing.
+/// The bounds of all records over a closed cube, None for a logical one; or the first record whose
+/// bounds pass 2^60. Its bounds are exact, since those of its operands are within the limit.
 pub fn over(sheet: &Sheet, cube: &Cube) -> Result<Vec<Option<Interval>>, usize> {
     let mut all: Vec<Option<Interval>> = Vec::new();
     for (number, record) in sheet.records.iter().enumerate() {

@@ -6,8 +6,8 @@ use crate::root::{Cube, Root};
 use crate::sheet::{self, Sheet};
 use crate::{reply, Refusal, Reply};
 
-/// What colours a cube: a colour, or the first record whose bounds over the cube pass 2^60. Building
-/// takes it, so that a test can build by a wrong one.
+/// Colours a cube: returns a colour, or the first record whose bounds over the cube pass 2^60. It is a
+/// parameter of building, so that a test can build by a wrong one.
 pub type Colouring<'a> = dyn Fn(&Sheet, &Cube) -> Result<Colour, usize> + 'a;
 
 /// Builds the map of a sheet at the start of the lent buffer; later bytes stay.
@@ -24,7 +24,7 @@ pub fn map_of(sheet: &[u8], root: &Root) -> Result<Vec<u8>, Refusal> {
     map_by(&colour::colour, &sheet, root)
 }
 
-/// The map by a colouring.
+/// The map of a sheet, by a given colouring.
 pub fn map_by(colouring: &Colouring, sheet: &Sheet, root: &Root) -> Result<Vec<u8>, Refusal> {
     if !root.in_limits() {
         return Err(reply(6, 0));

@@ -65,7 +65,7 @@ pub fn either(p: State, q: State) -> State {
     }
 }
 
-/// The rules on states of records, which colouring takes, so that a test can colour by a wrong one.
+/// The rules for states. They are a parameter of colouring, so that a test can colour by a wrong one.
 pub struct Rules {
     pub both: fn(State, State) -> State,
     pub either: fn(State, State) -> State,

@@ -83,7 +83,7 @@ fn negative(a: &Fraction) -> Fraction {
 }
 
 impl Values {
-    /// Works out all records of a sheet.
+    /// Computes all records of a sheet.
     pub fn at(sheet: &Sheet, point: &Point) -> Values {
         let mut values = Values(Vec::new());
         for record in &sheet.records {

@@ -1,8 +1,8 @@
-//! Document 01 in plain Rust, written from the document alone: what the proved library is compared with.
+//! Document 01 in plain Rust, written from the document alone. The proved library is compared with it.
 //!
-//! There is a module for each of its sections, in its words and its order, and each rule stands in one
+//! There is a module for each section of the document, in its words and order, and each rule is in one
 //! place. Clarity comes first. Whole numbers are exact: 128 bits where the paper's limits keep them
-//! small, and of any size where they do not.
+//! small, and of any size elsewhere.
 
 pub mod bounds;
 pub mod build;
@@ -17,7 +17,7 @@ pub mod whole;
 #[cfg(test)]
 mod rows;
 
-/// What a call answers: a code of the table "Replies, in order of test", and the number returned.
+/// What a call returns: a code of the table "Replies, in order of test", and the number with it.
 #[derive(Clone, Copy, Debug, PartialEq, Eq)]
 pub struct Reply {
     pub code: u32,
@@ -27,7 +27,7 @@ pub struct Reply {
 /// A reply whose code is not 0.
 pub type Refusal = Reply;
 
-/// The reply of a code with a number.
+/// The reply with a code and a number.
 pub fn reply(code: u32, number: usize) -> Reply {
     Reply {
         code,

@@ -11,7 +11,7 @@ pub const OUTSIDE: usize = 0;
 pub const INSIDE: usize = 1;
 pub const UNDECIDED: usize = 2;
 
-/// A sheet and a map that no reply before 10 refuses.
+/// A sheet and a map that pass every test before reply 10.
 pub struct Opened {
     sheet: Sheet,
     map: Map,
@@ -34,7 +34,7 @@ pub fn open(sheet: &[u8], map: &[u8]) -> Result<Opened, Refusal> {
 }
 
 impl Opened {
-    /// By the leaf that holds the point.
+    /// The reply for a point, by the leaf that holds it.
     pub fn answer(&self, point: [i32; 3]) -> Reply {
         if !self.map.root.cube().holds(point) {
             return reply(10, 0);
@@ -57,7 +57,7 @@ impl Opened {
         }
     }
 
-    /// Works out a terminal leaf's face exactly at the point.
+    /// Evaluates a terminal leaf's face exactly at the point.
     fn satisfies(&self, leaf: Leaf, point: [i32; 3]) -> bool {
         Values::at(&self.sheet, &Point::whole(point)).holds(usize::from(leaf.colour.face))
     }

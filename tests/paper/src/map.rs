@@ -36,7 +36,7 @@ pub fn write(root: &Root, leaves: &[Leaf]) -> Vec<u8> {
     bytes
 }
 
-/// Opens a map, whatever sheet it is of: one that opens gives the number of its leaves.
+/// Opens a map without its sheet, and returns the number of its leaves, or reply 9.
 pub fn open(bytes: &[u8]) -> Reply {
     match read(bytes) {
         Ok(map) => reply(0, map.leaves.len()),
@@ -49,14 +49,14 @@ pub fn read(bytes: &[u8]) -> Result<Map, Refusal> {
     read_with(bytes, &|_| true)
 }
 
-/// Reads a map for a sheet: a terminal leaf that names no face of it is a fault too, in order of offset
-/// with the others.
+/// Reads a map for a sheet: a terminal leaf that does not name a face of the sheet is a fault too, in order of
+/// offset with the others.
 pub fn read_for(bytes: &[u8], sheet: &Sheet) -> Result<Map, Refusal> {
     read_with(bytes, &|number| sheet.is_face(number))
 }
 
-/// Reads a map whose terminal leaves may name these records, or refuses it by reply 9 with the offset of
-/// the first fault.
+/// Reads a map whose terminal leaves may name only these records, or refuses it by reply 9 with the offset
+/// of the first fault.
 fn read_with(bytes: &[u8], may_name: &dyn Fn(usize) -> bool) -> Result<Map, Refusal> {
     if !length_is_good(bytes) {
         return Err(reply(9, 0));
@@ -86,7 +86,7 @@ fn number(four: &[u8]) -> u32 {
     u32::from_be_bytes(four.try_into().expect("four bytes"))
 }
 
-/// The root and depth that a map's header tells, in limits or not.
+/// The root and depth in a map's header, in limits or not.
 pub fn root(bytes: &[u8]) -> Root {
     Root {
         low: [5, 9, 13].map(|at| number(&bytes[at..at + 4]) as i32),
@@ -105,7 +105,7 @@ fn leaf(three: &[u8]) -> Leaf {
     }
 }
 
-/// The first leaf that is not good, or that is missing.
+/// The number of the first leaf that is bad or missing.
 fn first_bad(root: &Root, leaves: &[Leaf], may_name: &dyn Fn(usize) -> bool) -> Option<usize> {
     let mut place = 0;
     for (number, leaf) in leaves.iter().enumerate() {
@@ -118,7 +118,7 @@ fn first_bad(root: &Root, leaves: &[Leaf], may_name: &dyn Fn(usize) -> bool) -> 
     (place != size(root.d, 0)).then_some(leaves.len())
 }
 
-/// 8^(d-level): how many places a leaf takes.
+/// 8^(d-level): the number of places that a leaf takes.
 fn size(d: u8, level: u8) -> u64 {
     8u64.pow(u32::from(d - level))
 }
@@ -154,7 +154,7 @@ impl Map {
         })
     }
 
-    /// The cube of a level that begins at a place. A place's digits to the base 8 are child numbers.
+    /// The cube of a level that begins at a place. The digits of a place in base 8 are child numbers.
     fn cube_at(&self, place: u64, level: u8) -> Cube {
         (1..=level).fold(self.root.cube(), |cube, l| {
             cube.child((place / size(self.root.d, l) % 8) as usize)

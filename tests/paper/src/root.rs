@@ -1,6 +1,6 @@
 //! "Root, depth, cubes".
 
-/// A root and a depth, in limits or not: its low corner, k, where its side is 2^k, and d.
+/// A root and a depth, in limits or not: the low corner, k (the side is 2^k), and the depth d.
 #[derive(Clone, Copy, Debug, PartialEq, Eq)]
 pub struct Root {
     pub low: [i32; 3],
@@ -8,7 +8,7 @@ pub struct Root {
     pub d: u8,
 }
 
-/// A cube of a level, by its low corner and its side.
+/// A cube: its low corner, its side and its level.
 #[derive(Clone, Copy, Debug, PartialEq, Eq)]
 pub struct Cube {
     pub low: [i64; 3],
@@ -16,7 +16,7 @@ pub struct Cube {
     pub level: u8,
 }
 
-/// Coordinates of a root reach from minus this to this.
+/// Coordinates of a root range from minus this to this.
 pub const FURTHEST: i64 = 1 << 20;
 
 impl Root {
@@ -24,7 +24,7 @@ impl Root {
         self.k <= 16 && self.lies_within() && self.d <= 10 && self.d <= self.k
     }
 
-    /// Each low coordinate is at least -2^20 and each high one at most 2^20. Asked only if k is in limits.
+    /// Each low coordinate is at least -2^20 and each high one at most 2^20. Called only if k is in limits.
     fn lies_within(&self) -> bool {
         let side = 1i64 << self.k;
         self.low

@@ -9,7 +9,7 @@ use crate::root::{Cube, Root};
 use crate::sheet::{self, check, Record::*, Sheet};
 use crate::{reply, Reply};
 
-/// Bytes written in hex.
+/// The bytes of a hex string.
 fn hex(text: &str) -> Vec<u8> {
     let digits: Vec<u8> = text.bytes().filter(|c| !c.is_ascii_whitespace()).collect();
     let byte = |two: &[u8]| u8::from_str_radix(std::str::from_utf8(two).unwrap(), 16).unwrap();
@@ -21,7 +21,7 @@ fn s() -> Vec<u8> {
     hex("00 1D 01 01 02 01 03 05 01 00 00 00 02 03 06 00 02 03 06 01 02 02 10 03 02 10 04 03 11 05 06")
 }
 
-/// The leaves of the step room's map at d 1, of one half of it.
+/// The leaves of one half of the step room's map at d 1.
 const HALF: &str = "01 01 00 01 02 05 01 02 06 01 04 00";
 
 /// The step room's map at d 1.
@@ -152,7 +152,7 @@ fn sheets_that_are_refused() {
     is(refused("00 07 01 01 02 02 10 01 00"), 3, 8);
     is(refused("00 08 01 01 02 02 10 00 01 13"), 3, 8);
     is(refused("00 08 01 01 02 02 13 00 01 02"), 4, 1);
-    // All records are framed before any operand is looked at.
+    // All records are framed before any operand is tested.
     is(refused("00 06 01 02 10 09 01 09"), 3, 6);
 }
 
@@ -178,7 +178,7 @@ fn limits_of_the_root() {
     assert!(refused(0, 2, 3) && refused(0, 16, 11) && refused(0, 16, 255));
 }
 
-/// The step room's map with other bytes from an offset on, and its length told by its first bytes.
+/// The step room's map with other bytes from an offset on, and a length that agrees.
 fn changed(at: usize, bytes: &str) -> Vec<u8> {
     let mut map = step_room();
     map.truncate(at);

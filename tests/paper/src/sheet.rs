@@ -38,7 +38,7 @@ pub const MOST_RECORDS: usize = 256;
 const FIRST_RECORD: usize = 3;
 
 impl Record {
-    /// The table of kinds: the bytes after a record's count byte. None is an unknown kind or a wrong count.
+    /// The table of kinds, by the bytes after a record's count byte. None for an unknown kind or a wrong count.
     fn read(counted: &[u8]) -> Option<Record> {
         let number = |operand: u8| operand as usize;
         Some(match *counted {
@@ -109,7 +109,7 @@ impl Sheet {
     }
 }
 
-/// Tests a sheet: a good one gives the number of its records.
+/// Tests a sheet, and returns the number of its records if it is good.
 pub fn check(bytes: &[u8]) -> Reply {
     match read(bytes) {
         Ok(sheet) => reply(0, sheet.records.len()),
@@ -117,7 +117,7 @@ pub fn check(bytes: &[u8]) -> Reply {
     }
 }
 
-/// Reads a sheet, or refuses it by the first of replies 1 to 5 that is due.
+/// Reads a sheet, or refuses it by the first of replies 1 to 5 that applies.
 pub fn read(bytes: &[u8]) -> Result<Sheet, Refusal> {
     if bytes.len() < 3 || usize::from(u16::from_be_bytes([bytes[0], bytes[1]])) != bytes.len() - 2 {
         return Err(reply(1, 0));
@@ -135,7 +135,7 @@ pub fn read(bytes: &[u8]) -> Result<Sheet, Refusal> {
     }
 }
 
-/// All records, whatever their operands are, or reply 3 at the first that is none.
+/// All records, whatever their operands are, or reply 3 at the first that is not a record.
 pub fn framed(bytes: &[u8]) -> Result<Vec<Record>, Refusal> {
     let mut records = Vec::new();
     let mut offset = FIRST_RECORD;

@@ -1,8 +1,8 @@
-//! Whole numbers of any size: as much of them as fractions need.
+//! Whole numbers of any size, with the operations that fractions need.
 
 use std::cmp::Ordering;
 
-/// A sign and a magnitude, its digits to the base 2^32, the least first and no 0 last. Zero is not negative.
+/// A sign and a magnitude: its digits in base 2^32, least significant first, the last not 0. Zero is not negative.
 #[derive(Clone, Debug, PartialEq, Eq)]
 pub struct Whole {
     negative: bool,
@@ -69,7 +69,7 @@ fn sum(a: &[u32], b: &[u32]) -> Vec<u32> {
     digits
 }
 
-/// Of a and a b that is at most a.
+/// a - b, where b is at most a.
 fn difference(a: &[u32], b: &[u32]) -> Vec<u32> {
     let mut borrow = 0;
     let mut digits = Vec::new();

@@ -1,4 +1,4 @@
-//! The baseline of the speed measure: a plain program that evaluates every record at every cube, in one pass, into vectors.
+//! The baseline for building: a plain program that evaluates every record at every cube, in one pass, into vectors.
 use crate::colour::{colour, Cube, Interval, State};
 use crate::records::{parse, Record, Refusal};
 
@@ -30,7 +30,7 @@ impl Root {
     }
 }
 
-/// A build under way, with vectors that each cube fills anew.
+/// A build in progress, with vectors that are refilled for each cube.
 struct Build<'a> {
     records: &'a [Record],
     d: u8,
@@ -47,7 +47,7 @@ pub fn limited_over_root(records: &[Record], root: &Root) -> Result<(), usize> {
     colour(records, &mut bounds, &mut states, &root.cube()).map(|_| ())
 }
 
-/// Whether a point of a root over which no record passes the limit satisfies a face of the sheet.
+/// Whether a point satisfies a face of the sheet. No record may pass the limit over the root that holds the point.
 pub fn satisfies(records: &[Record], face: u8, point: [i32; 3]) -> bool {
     let [x, y, z] = point.map(i64::from);
     let mut values = Vec::with_capacity(records.len());
@@ -85,13 +85,13 @@ impl Build<'_> {
     }
 }
 
-/// A zone map, and the number of cubes that were coloured for it.
+/// A zone map, and the number of cubes coloured to build it.
 pub struct Map {
     pub bytes: Vec<u8>,
     pub cubes: usize,
 }
 
-/// The map of a sheet, or the refusal. Its vector grows as needed, so there is no reply 8.
+/// The map of a sheet, or the refusal. The vector grows as needed, so there is no reply 8.
 pub fn build(sheet: &[u8], root: &Root) -> Result<Map, Refusal> {
     let records = parse(sheet)?;
     if !root.is_within_limits() {

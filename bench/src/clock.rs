@@ -1,4 +1,4 @@
-//! The processor time of this thread: on a machine that others use too, it leaves out the time that was theirs.
+//! The processor time of this thread, which leaves out the time that other programs on the machine take.
 use std::time::Duration;
 
 #[repr(C)]
@@ -19,7 +19,7 @@ pub fn now() -> Duration {
         seconds: 0,
         nanoseconds: 0,
     };
-    // The C library writes the one struct that is lent to it.
+    // The C library writes only the struct that is lent to it.
     let status = unsafe { clock_gettime(THREAD, &mut time) };
     assert_eq!(status, 0, "there is no such clock");
     Duration::new(time.seconds as u64, time.nanoseconds as u32)

@@ -134,7 +134,7 @@ impl Cube {
     }
 }
 
-/// The solid's state over a cube, or the first record whose bounds pass the limit. An entry of the other sort is never read.
+/// The solid's state over a cube, or the first record whose bounds pass the limit. The bounds of a logical record and the state of an arithmetic one are never read.
 pub fn colour(
     records: &[Record],
     bounds: &mut [Interval],

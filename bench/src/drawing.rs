@@ -1,7 +1,7 @@
 //! A zone sheet under construction, from faces and shapes.
 use std::collections::HashMap;
 
-/// Records under construction. Each call returns a record's number, and a record that is already there is used again.
+/// Records under construction. Each call returns a record's number, and reuses an equal record that is already there.
 #[derive(Default)]
 pub struct Sheet {
     bytes: Vec<u8>,
@@ -71,7 +71,7 @@ impl Sheet {
         self.face(under)
     }
 
-    /// Between two planes across an axis.
+    /// The space between two planes across an axis.
     pub fn slab(&mut self, axis: u8, low: i32, high: i32) -> u8 {
         let a = self.coordinate(axis);
         let (from, to) = (self.at_least(a, low), self.at_most(a, high));
@@ -93,7 +93,7 @@ impl Sheet {
         self.sum(a, b)
     }
 
-    /// All heights within a radius of an upright axis.
+    /// The points within a radius of an upright axis, at all heights.
     pub fn cylinder(&mut self, x: i32, y: i32, radius: i32) -> u8 {
         let square = self.flat_distance_squared(x, y);
         self.at_most(square, radius * radius)

@@ -1,4 +1,4 @@
-//! The proved library's calls, with replies by code and number as in the baseline.
+//! The proved library's calls, with replies as code and number, like the baseline's.
 use crate::baseline::Root;
 use crate::records::Refusal;
 

@@ -1,11 +1,11 @@
-//! Opening a map and looking a point up, by the library beside the plain program of `scan`.
+//! Opening a map and looking a point up, by the library and by the plain program of `scan`.
 use crate::baseline::Root;
 use crate::sheets::Case;
 use crate::turns::{each, interleaved, RUNS};
 use crate::{leaves, library, scan, sheets, stack};
 use std::hint::black_box;
 
-/// A plain generator of numbers (a linear congruence by Knuth), so that every run compares the same points.
+/// A plain random generator (Knuth's linear congruence), so that every run compares the same points.
 struct Numbers(u64);
 
 impl Numbers {
@@ -41,8 +41,8 @@ fn places(map: &[u8]) -> Vec<usize> {
     places
 }
 
-/// A point of a leaf, so that small leaves are met as often as large ones: on planes of the smallest cubes, next to them, or anywhere.
-/// One point in eight lies outside the root, just outside or far off.
+/// A point of a random leaf, so that small leaves are hit as often as large ones: on planes of the smallest cubes, next to them, or anywhere.
+/// One point in eight lies outside the root, just outside or far away.
 fn point(root: &Root, places: &[usize], numbers: &mut Numbers) -> [i32; 3] {
     let leaf = numbers.below(places.len() - 1);
     let place = places[leaf] + numbers.below(places[leaf + 1] - places[leaf]);
@@ -62,7 +62,7 @@ fn point(root: &Root, places: &[usize], numbers: &mut Numbers) -> [i32; 3] {
     point
 }
 
-/// A map with a byte changed or a leaf left out, most often so that its length still agrees.
+/// A map with a byte changed or a leaf left out, usually with a length that still agrees.
 fn damaged(map: &[u8], numbers: &mut Numbers) -> Vec<u8> {
     let mut bytes = map.to_vec();
     let at = match numbers.below(8) {
@@ -118,7 +118,7 @@ impl Counts {
     }
 }
 
-/// Compares the answers for points of a map, until the lookups have passed over this many leaves; for a small map also with damaged bytes.
+/// Compares the answers for points of a map: fewer points for a larger map, and damaged bytes too for a small one.
 fn compare(case: &Case, map: &[u8], counts: &mut Counts) {
     let mut numbers = Numbers(case.records as u64);
     let places = places(map);

@@ -1,5 +1,5 @@
-//! Times building and looking up by the proved library beside plain Rust programs, and measures its stack.
-//! usage: bench [build] [lookup] [stack], all three if none is named; bench rooms FILE..
+//! Times building and looking up by the proved library and by plain Rust programs, and measures its stack.
+//! usage: bench [build] [lookup] [stack], all three where none is named; bench rooms FILE..
 mod baseline;
 mod clock;
 mod colour;
@@ -80,7 +80,7 @@ fn speed() {
     }
 }
 
-/// The stack of a build that is gray to depth 10, beside that of an empty call and of the baseline.
+/// The stack of a build that is gray to depth 10, of an empty call, and of the baseline.
 fn stack() {
     let Case {
         records,
@@ -108,7 +108,7 @@ fn stack() {
     );
 }
 
-/// Prints the leaves of a room's map by class; the file is one that the listing program reads.
+/// Prints the number of leaves of a room's map by class; the file is an input of the listing program.
 fn room(path: &str) {
     let bytes = std::fs::read(path).expect("a file that can be read");
     let Some((head, sheet)) = bytes.split_first_chunk::<14>() else {

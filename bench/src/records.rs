@@ -1,6 +1,6 @@
 //! The records of a zone sheet, for the plain programs.
 
-/// A refusal of document 01: the code and the number returned with it.
+/// A refusal of document 01: the code, and the number returned with it.
 pub type Refusal = (u32, u64);
 
 const MOST_RECORDS: usize = 256;

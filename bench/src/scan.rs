@@ -1,4 +1,4 @@
-//! The baseline of looking up: a plain program that opens a map in one pass over its leaves, and decides by the leaf that holds the point.
+//! The baseline for looking up: a plain program that opens a map in one pass over its leaves, and answers by the leaf that holds the point.
 use crate::baseline::{limited_over_root, satisfies, Root};
 use crate::records::{parse, Record, Refusal};
 
@@ -42,7 +42,7 @@ fn is_good([level, class, face]: Leaf, faces: &[bool; 256], d: u8) -> bool {
         }
 }
 
-/// The leaf that holds a place, or the offset of the first fault of the leaves. It is the last leaf that starts at or before the place.
+/// The leaf that holds a place, or the offset of the first fault in the leaves. The last leaf that begins at or before a place holds it.
 fn open(leaves: &[u8], faces: &[bool; 256], d: u8, wanted: u32) -> Result<Leaf, usize> {
     let (leaves, _) = leaves.as_chunks::<3>();
     let end = 1u32 << (3 * d);

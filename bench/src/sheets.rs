@@ -10,7 +10,7 @@ pub struct Case {
     pub root: Root,
 }
 
-/// The most records that a part of a room takes, apart from the first box.
+/// The most records that a part of a room takes (apart from the first box), and the fewest that a roof can fill.
 const MOST_OF_A_PART: usize = 14;
 /// The fewest records that a roof can take; it can take any number from this on.
 const LEAST_OF_A_ROOF: usize = 13;
@@ -18,7 +18,7 @@ const LEAST_OF_A_ROOF: usize = 13;
 const FLOOR: i32 = 80;
 const CEILING: i32 = 780;
 
-/// The measures of the i-th room of the corridor: its west wall, width and window wall.
+/// The dimensions of the i-th room of the corridor: its west wall, width and window wall.
 fn measures(i: i32) -> (i32, i32, i32) {
     (100 + 1000 * i, 970 - 13 * i, 1500 + 7 * i)
 }
@@ -60,13 +60,13 @@ fn column(s: &mut Sheet, i: i32, solid: u8) -> u8 {
     s.both(solid, clear)
 }
 
-/// The solid with one room more.
+/// The solid with one more room.
 fn room(s: &mut Sheet, i: i32, solid: u8) -> u8 {
     let next = space(s, i);
     s.either(solid, next)
 }
 
-/// Cuts the solid by slanting planes until there are exactly this many records. A plane takes four of them, or five with a complement.
+/// Cuts the solid by slanting planes, of four records or of five with a complement, until there are exactly `records` records.
 fn roof(s: &mut Sheet, mut solid: u8, records: usize) -> u8 {
     let (y, z) = (s.coordinate(1), s.coordinate(2));
     let slant = s.sum(y, z);
@@ -85,7 +85,7 @@ fn roof(s: &mut Sheet, mut solid: u8, records: usize) -> u8 {
     solid
 }
 
-/// The case of a sheet that was made to have this many records, over a root at the origin.
+/// The case of a sheet with exactly `records` records, over a root at the origin.
 fn finished(s: Sheet, records: usize, k: u8, d: u8) -> Case {
     assert_eq!(s.count(), records);
     Case {
@@ -99,7 +99,7 @@ fn finished(s: Sheet, records: usize, k: u8, d: u8) -> Case {
     }
 }
 
-/// As many rooms with their parts as fit in this many records, under a roof that takes the rest.
+/// As many rooms with their parts as fit, under a roof that takes the rest of the `records` records.
 fn corridor(records: usize, k: u8, d: u8) -> Case {
     let mut s = Sheet::default();
     let mut solid = space(&mut s, 0);
@@ -122,8 +122,8 @@ pub fn corridors() -> [Case; 3] {
     ]
 }
 
-/// A quarter of a round hall. Its wall is two cylinders a few units apart, so that the number of leaves grows with the depth. If there are
-/// more records than the wall needs, a room stands in the hall, and its roof takes the rest.
+/// A quarter of a round hall, whose wall is two cylinders a few units apart, so that a deeper map has more leaves. If `records` is more than
+/// the wall takes, there is a room in the hall, whose roof takes the rest.
 fn hall(records: usize, d: u8) -> Case {
     let mut s = Sheet::default();
     let (outer, inner) = (s.cylinder(0, 0, 5000), s.cylinder(0, 0, 4984));
@@ -137,7 +137,7 @@ fn hall(records: usize, d: u8) -> Case {
     finished(s, records, 14, d)
 }
 
-/// Fourth powers, which are past the limit over a root that is large or far off.
+/// Fourth powers, which pass the limit over a root that is large or far away.
 pub fn steep() -> Case {
     let mut s = Sheet::default();
     let [x, y] = [0, 1].map(|axis| {
@@ -157,12 +157,12 @@ pub fn steep() -> Case {
     }
 }
 
-/// The sheets and roots of the maps that points are looked up in: about 1,000, 20,000 and 1,000,000 leaves of each sheet.
+/// The sheets and roots of the maps for lookups: about 1,000, 20,000 and 1,000,000 leaves of each sheet.
 pub fn halls() -> [Case; 6] {
     [(16, 5), (50, 5), (16, 7), (50, 7), (16, 10), (50, 10)].map(|(records, d)| hall(records, d))
 }
 
-/// One point, as two faces that only that point satisfies: gray to depth 10 round it and white elsewhere. All kinds are used.
+/// One point, as two faces that only that point satisfies: gray to depth 10 around it and white elsewhere. All kinds are used.
 pub fn point() -> Case {
     let mut s = Sheet::default();
     let centre = [341, 682, 170];

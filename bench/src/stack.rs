@@ -1,4 +1,4 @@
-//! How much stack a call uses: the stack below the caller is painted, the call is made, and the part that is no longer paint is measured.
+//! How much stack a call uses: paints the stack below the caller, makes the call, and measures how far the paint was overwritten.
 use std::hint::black_box;
 
 /// A call that uses more than this is not measured.
@@ -16,7 +16,7 @@ fn paint(colour: u8) -> usize {
 /// The lowest address, from the given one up, that is no longer paint.
 #[inline(never)]
 fn first_changed(lowest: usize, colour: u8) -> usize {
-    // The thread's own stack, which stays mapped; volatile, since to the compiler these bytes belong to nobody.
+    // The thread's own stack, which stays mapped. The read is volatile, since to the compiler these bytes belong to no object.
     (lowest..)
         .find(|&at| unsafe { std::ptr::read_volatile(at as *const u8) } != colour)
         .unwrap()
@@ -36,7 +36,7 @@ fn used_with(colour: u8, call: &mut dyn FnMut()) -> usize {
     top - changed
 }
 
-/// The bytes of stack that a call uses, in a thread of its own. Two colours, since a call may write the one it was painted with.
+/// The bytes of stack that a call uses, in a thread of its own. Two colours, since a call may itself write a byte of one colour.
 pub fn used(mut call: impl FnMut() + Send) -> usize {
     std::thread::scope(|scope| {
         let run = move || {

@@ -1,4 +1,4 @@
-//! Times several ways to do the same thing in turns, so that whatever slows the machine for a while slows all of them.
+//! Times several ways to do a thing in turn, so that a temporary slowdown of the machine affects all of them.
 use crate::clock;
 use std::time::Duration;
 
@@ -6,7 +6,7 @@ pub const RUNS: usize = 15;
 /// A run repeats the call until it is long enough for the clock.
 const LEAST_RUN: Duration = Duration::from_millis(5);
 
-/// The processor time of one call, over as many as fill a run.
+/// The mean processor time of one call, over a run.
 fn time(repeats: u32, call: &mut dyn FnMut()) -> Duration {
     let start = clock::now();
     for _ in 0..repeats {
@@ -22,14 +22,14 @@ pub struct Times {
 }
 
 impl Times {
-    /// How many times as long the others took, by the medians and by the least.
+    /// The ratio of other times to these, by the medians and by the least.
     pub fn ratios(&self, others: &Times) -> [f64; 2] {
         [(self.median, others.median), (self.least, others.least)]
             .map(|(one, other)| other.as_secs_f64() / one.as_secs_f64())
     }
 }
 
-/// Times each of some calls, in turns.
+/// Times some calls in turn.
 pub fn interleaved<const N: usize>(mut calls: [&mut dyn FnMut(); N]) -> [Times; N] {
     let repeats = calls
         .each_mut()
@@ -49,7 +49,7 @@ pub fn interleaved<const N: usize>(mut calls: [&mut dyn FnMut(); N]) -> [Times; 
     })
 }
 
-/// The nanoseconds for each of some things that together took this time.
+/// The nanoseconds per item, where `count` items took `time` together.
 pub fn each(time: Duration, count: usize) -> f64 {
     time.as_nanos() as f64 / count as f64
 }

@@ -21,7 +21,7 @@ module _ (s : List ℕ) where
   unfolding offsetOf
   next-offset n = rw (add-one n)
 
-  -- n records come before offset n
+  -- n records come before the offset of record n
   pub before-offset : (n : ℕ) → n ≤ length (recordsOf s) → Before s (offsetOf s n) n
   unfolding offsetOf
   before-offset zero h = before-first s
@@ -30,7 +30,7 @@ module _ (s : List ℕ) where
       let w = before-offset n (omega arith) in
       rw (add-one n) at (before-next s (offsetOf s n) n w more _ (record-is s (offsetOf s n) (stands s (offsetOf s n) n w more) _ refl))
 
-  -- record n stands at offset n
+  -- record n stands at its offset
   pub stands-there : (n : ℕ) → n < length (recordsOf s) → Stands s (offsetOf s n)
   stands-there n more = stands s (offsetOf s n) n (before-offset n (omega arith)) more
 

@@ -22,7 +22,7 @@ pub struct Sizes {
 }
 
 impl Sizes {
-    /// The number of damaged sheets, and of damaged maps, beside those with a single byte changed.
+    /// The number of damaged sheets, and of damaged maps, besides those with a single byte changed.
     fn damaged(&self) -> u64 {
         self.builds / 5
     }

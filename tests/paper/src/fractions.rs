@@ -143,7 +143,7 @@ mod tests {
         }
     }
 
-    /// x² at most 2 about its root: 14142/10000 is inside and 14143/10000 is not.
+    /// x² at most 2 around its root: 14142/10000 is inside and 14143/10000 is not.
     #[test]
     fn exact_beside_a_root() {
         let records = vec![X, Square(0), Constant(2), Difference(1, 2), Face(3)];
@@ -153,7 +153,7 @@ mod tests {
         assert!(is_inside(-14_142) && !is_inside(-14_143));
     }
 
-    /// A point on a face satisfies it: x + y = z at 1/3, 1/6, 1/2, and one step beside.
+    /// A point on a face satisfies it: x + y = z at 1/3, 1/6, 1/2, and one step off the face.
     #[test]
     fn on_a_face_and_beside() {
         let sum_less_z = vec![X, Y, Z, Sum(0, 1), Difference(3, 2)];

@@ -12,7 +12,7 @@ use Rattle.sheet.specs.declared.Record.the-variants.{Constant, X, Y, Z, Sum, Di
 use Rattle.sheet.proofs.Along.{Pairs, related}
 use Rattle.cube.specs.declared.Cube.{Cube}
 use Rattle.colour.specs.Bounds.{across, boundsOf}
-use Rattle.colour.specs.Entries.{Entry, blank, entryOf, entries}
+use Rattle.colour.specs.Entries.{Entry, blank, faceBounds, entryOf, entries}
 
 -- an interval of one number
 abbrev pub One : Interval → Type 0
@@ -56,3 +56,8 @@ module _ (q : Cube) (point : q .side ≡ 0) where
 
   pub exact : (rs : List Record) (i : ℕ) → One (getD (entries q rs) i blank .bounds)
   exact rs i = related Exact blank blank (pos 0, refl) (entryOf q) (entryOf q) step-one rs .each i
+
+  -- so are the bounds that a face is given
+  pub exact-face : (rs : List Record) (i : ℕ) → One (faceBounds q (getD (entries q rs) i blank))
+  unfolding faceBounds
+  exact-face = exact

@@ -39,7 +39,7 @@ use Rattle.colour.specs.Bounds.{boundsOf}
 use Rattle.colour.specs.States.{classOf, faceOf, stateOf}
 use Rattle.colour.specs.Held.{stateBy}
 use Rattle.colour.specs.Held.{Held, heldAt}
-use Rattle.colour.specs.Entries.{Entry, blank, entryOf, entries, beforePast, judgedOf}
+use Rattle.colour.specs.Entries.{Entry, blank, faceBounds, entryOf, entries, beforePast, judgedOf}
 use Rattle.colour.proofs.Arms.{zero-small}
 use Rattle.colour.proofs.FirstPast.{Keep, first-past, none-past, keep-more}
 
@@ -99,6 +99,11 @@ module _ (s : List ℕ) (q : Cube) (b : Bounds) (classes faces : List ℕ) (w : 
   operand : (a : ℕ) → heldAt (b .low) (b .high) a ≡ known a .bounds
   operand a = λ k. from (w .lows a k) (w .highs a k)
 
+  -- what is read for a face is what it is given
+  given : (a : ℕ) → heldAt (b .low) (b .high) a ≡ faceBounds q (known a)
+  unfolding faceBounds
+  given a = operand a
+
   pub held : Held (b .low) (b .high)
   held = record { lows = w .low-long; highs = w .high-long; small = λ a. rw (operand a) (w .keep a) }
 
@@ -137,7 +142,7 @@ module _ (s : List ℕ) (q : Cube) (b : Bounds) (classes faces : List ℕ) (w : 
 
     state-is : stateOf n (heldAt (b .low) (b .high) first) (stated first) (stated second) r ≡ this .state
     unfolding entryOf
-    state-is = rw (operand first, coloured first, coloured second, long)
+    state-is = rw (given first, coloured first, coloured second, long)
 
     walk : Before s at n
     walk = rw there (before-offset s n (w .among))

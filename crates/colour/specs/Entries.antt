@@ -26,6 +26,10 @@ pub record Entry : Type 0 where
 abbrev pub blank : Entry
 blank = record { bounds = none; state = Out }
 
+-- the bounds over a cube by which a face is coloured, from its operand's entry: those of its operand
+unfoldable pub faceBounds : Cube → Entry → Interval
+faceBounds q operand = operand .bounds
+
 -- a record's entry, from the entries before it
 unfoldable pub entryOf : Cube → List Entry → Record → Entry
 entryOf q before r =
@@ -33,7 +37,7 @@ entryOf q before r =
     let second = getD before (secondOf r) blank in
     record {
       bounds = boundsOf q (first .bounds) (second .bounds) r;
-      state = stateOf (length before) (first .bounds) (first .state) (second .state) r;
+      state = stateOf (length before) (faceBounds q first) (first .state) (second .state) r;
     }
 
 -- The bounds of all records of a cube are held together.

@@ -43,7 +43,7 @@ bothOf s t = cond (isOut s || isOut t) Out (cond (isIn s) t (cond (isIn t) s Mix
 unfoldable pub eitherOf : State → State → State
 eitherOf s t = cond (isIn s || isIn t) In (cond (isOut s) t (cond (isOut t) s Mixed))
 
--- the state of record n, where i are the bounds of its first operand, s and t the states of its operands; one that is not logical says nothing
+-- the state of record n, where i are the bounds that a face is given, s and t the states of its operands; one that is not logical says nothing
 unfoldable pub stateOf : ℕ → Interval → State → State → Record → State
 stateOf n i s t (Constant c) = Mixed
 stateOf n i s t X = Mixed

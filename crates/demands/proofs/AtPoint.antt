@@ -24,7 +24,7 @@ use Rattle.meaning.proofs.Whole.{in-itself}
 use Rattle.colour.specs.declared.State.the-variants.{Out, In}
 use Rattle.colour.specs.States.{isIn, faceState, stateOf}
 use Rattle.colour.specs.Entries.{Entry, blank, entryOf, entries}
-use Rattle.colour.proofs.Exact.{exact}
+use Rattle.colour.proofs.Exact.{exact-face}
 use Rattle.soundness.specs.Claims.{Sound}
 use Rattle.soundness.proofs.StatesSound.{states-sound}
 use Rattle.lookup.specs.Lookup.{faceHolds}
@@ -78,7 +78,7 @@ module _ (rs : List Record) (f : ℕ) (p : Point) (e : hasFace rs f ≡ true) wh
       let before : List Record = take f rs in
       let n : length before ≡ f = length-take-le f rs (omega arith) in
       let split : rs ≡ before ++ Face (a .0) ∷ drop (suc f) rs = split-at rs f X l ∙ ap (λ (r : Record). before ++ r ∷ drop (suc f) rs) (a .1) in
-      let v = exact q (point-side p) before (a .0) in (
+      let v = exact-face q (point-side p) before (a .0) in (
         v .0,
         ap (λ (s : List Record). getD (entries q s) f blank .state) split
             ∙ ap (λ (k : ℕ). getD (entries q (before ++ Face (a .0) ∷ drop (suc f) rs)) k blank .state) (sym n)

@@ -16,7 +16,7 @@ use Rattle.sheet.specs.declared.Record.the-variants.{Constant, X, Y, Z, Sum, Di
 use Rattle.sheet.proofs.Along.{Pairs, related}
 use Rattle.cube.specs.declared.Cube.{Cube}
 use Rattle.colour.specs.Bounds.{across, boundsOf}
-use Rattle.colour.specs.Entries.{Entry, blank, entryOf, entries}
+use Rattle.colour.specs.Entries.{Entry, blank, faceBounds, entryOf, entries}
 use Rattle.meaning.specs.Fractions.{FractionalPoint, BetweenPlanes, InClosed}
 use Rattle.meaning.specs.Truth.{Value, over, raised, plus, minus, times, Meaning, absent, valueOf, meaningOf, meanings}
 use Rattle.soundness.specs.Claims.{HoldsValue}
@@ -76,3 +76,8 @@ module _ (q : Cube) (p : FractionalPoint) (h : InClosed q p) where
   -- the value of each record at the point lies in its bounds over the cube
   pub bounds-hold : (rs : List Record) (i : ℕ) → HoldsValue (p .n) (getD (entries q rs) i blank .bounds) (getD (meanings p rs) i absent .value)
   bounds-hold rs i = related Held blank absent (alone (p .n) (pos 0)) (entryOf q) (meaningOf p) step-holds rs .each i
+
+  -- the bounds that a face is given hold its operand's value
+  pub face-bounds-hold : (rs : List Record) (i : ℕ) → HoldsValue (p .n) (faceBounds q (getD (entries q rs) i blank)) (getD (meanings p rs) i absent .value)
+  unfolding faceBounds
+  face-bounds-hold = bounds-hold

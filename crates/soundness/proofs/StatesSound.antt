@@ -20,7 +20,7 @@ use Rattle.colour.specs.Entries.{Entry, blank, entryOf, entries}
 use Rattle.meaning.specs.Fractions.{FractionalPoint, InClosed}
 use Rattle.meaning.specs.Truth.{Value, atMostZero, Meaning, absent, holdsOf, meaningOf, meanings, holdsAt}
 use Rattle.soundness.specs.Claims.{HoldsValue, Sound}
-use Rattle.soundness.proofs.BoundsHold.{bounds-hold}
+use Rattle.soundness.proofs.BoundsHold.{face-bounds-hold}
 
 -- ---- each rule, once
 module _ (face : ℕ → Bool) where
@@ -117,7 +117,7 @@ module _ (q : Cube) (p : FractionalPoint) (h : InClosed q p) (rs : List Record) 
   step-sound before (Difference a b) after e k = mixed-sound face false
   step-sound before (Product a b) after e k = mixed-sound face false
   step-sound before (Square a) after e k = mixed-sound face false
-  step-sound before (Face a) after e k = face-sound face (p .n) (p .positive) _ _ _ (bounds-hold q p h before a) (own before after a e)
+  step-sound before (Face a) after e k = face-sound face (p .n) (p .positive) _ _ _ (face-bounds-hold q p h before a) (own before after a e)
   step-sound before (Both a b) after e k = both-sound face _ _ _ _ (k .each a) (k .each b)
   step-sound before (Either a b) after e k = either-sound face _ _ _ _ (k .each a) (k .each b)
   step-sound before (Complement a) after e k = complement-sound face _ _ (k .each a)

@@ -11,7 +11,7 @@ use Rattle.sheet.specs.Along.{along, onward}
 use Rattle.cube.specs.declared.Cube.{Cube}
 use Rattle.colour.specs.declared.State.the-variants.{In, Out, Single, Comp, Mixed}
 use Rattle.colour.specs.Bounds.{across, boundsOf}
-use Rattle.colour.specs.States.{faceState, complementOf, bothOf, eitherOf, stateOf}
+use Rattle.colour.specs.States.{faceState, complementOf, otherwiseOf, joinedBy, bothOf, eitherOf, stateOf}
 use Rattle.colour.specs.Entries.{blank, entryOf, entries}
 
 -- x(10-x) over x from 4 to 6: [16, 36]
@@ -52,12 +52,12 @@ out-row = refl
 
 -- the faces that are left in the cube count, not those of the whole sheet: a face that holds all over it leaves the other by itself
 pub left-row : bothOf In (Single 6) ≡ Single 6
-unfolding bothOf
+unfolding joinedBy otherwiseOf
 left-row = refl
 
 -- two faces that are both left are Mixed: neither of them alone says what both do
 pub two-left-row : bothOf (Single 5) (Single 6) ≡ Mixed
-unfolding bothOf
+unfolding joinedBy otherwiseOf
 two-left-row = refl
 
 -- In and Out change places; Single(f) and Comp(f) change places
@@ -69,5 +69,5 @@ complement-single-row = refl
 
 -- a face that holds nowhere in the cube leaves the other by itself
 pub either-left-row : eitherOf Out (Single 6) ≡ Single 6
-unfolding eitherOf
+unfolding joinedBy otherwiseOf
 either-left-row = refl

@@ -35,13 +35,21 @@ complementOf (Single f) = Comp f
 complementOf (Comp f) = Single f
 complementOf Mixed = Mixed
 
+-- what two states give of which neither decides and neither leaves it to the other
+unfoldable pub otherwiseOf : State → State → State → State
+otherwiseOf decided s t = Mixed
+
+-- both and either: `decided` if either state decides; otherwise if one leaves it to the other, the other's state; otherwise as above
+unfoldable pub joinedBy : (State → Bool) → State → (State → Bool) → State → State → State
+joinedBy decides decided leaves s t = cond (decides s || decides t) decided (cond (leaves s) t (cond (leaves t) s (otherwiseOf decided s t)))
+
 -- both: Out if either is Out; otherwise if one is In, the other's state; otherwise Mixed
-unfoldable pub bothOf : State → State → State
-bothOf s t = cond (isOut s || isOut t) Out (cond (isIn s) t (cond (isIn t) s Mixed))
+abbrev pub bothOf : State → State → State
+bothOf s t = joinedBy isOut Out isIn s t
 
 -- either: In if either is In; otherwise if one is Out, the other's state; otherwise Mixed
-unfoldable pub eitherOf : State → State → State
-eitherOf s t = cond (isIn s || isIn t) In (cond (isOut s) t (cond (isOut t) s Mixed))
+abbrev pub eitherOf : State → State → State
+eitherOf s t = joinedBy isIn In isOut s t
 
 -- the state of record n, where i are the bounds that a face is given, s and t the states of its operands; one that is not logical says nothing
 unfoldable pub stateOf : ℕ → Interval → State → State → Record → State

@@ -37,7 +37,7 @@ opens = refl
 
 -- no record passes the limit over its root
 none : firstPast stepRecords (rootCube (rootOf stepMap)) ≡ []
-unfolding firstPast beforePast along onward entryOf faceBounds boundsOf across difference isWithin isSmall stateOf faceState bothOf rootCube rootOf unsignedAt signed32
+unfolding firstPast beforePast along onward entryOf faceBounds boundsOf across difference isWithin isSmall stateOf faceState joinedBy otherwiseOf rootCube rootOf unsignedAt signed32
 none = refl
 
 -- so a point is out of the root, or its leaf answers
@@ -51,11 +51,11 @@ unfolding leafHolding rootOf leafIn leavesIn leafAt placeOf placeBy unsignedAt s
 by-face-5 = refl
 
 pub inside-2-0-0 : lookupOf stepSheet stepMap (at 2 0) ≡ Done Inside
-unfolding rootOf leafIn leavesIn leafAt placeOf placeBy unsignedAt signed32 leafHolding rootCube holdsPoint axisHolds answerOf faceHolds pointCube along onward entryOf faceBounds boundsOf across difference stateOf faceState bothOf
+unfolding rootOf leafIn leavesIn leafAt placeOf placeBy unsignedAt signed32 leafHolding rootCube holdsPoint axisHolds answerOf faceHolds pointCube along onward entryOf faceBounds boundsOf across difference stateOf faceState joinedBy otherwiseOf
 inside-2-0-0 = step-lookup (at 2 0)
 
 pub outside-3-0-0 : lookupOf stepSheet stepMap (at 3 0) ≡ Done Outside
-unfolding rootOf leafIn leavesIn leafAt placeOf placeBy unsignedAt signed32 leafHolding rootCube holdsPoint axisHolds answerOf faceHolds pointCube along onward entryOf faceBounds boundsOf across difference stateOf faceState bothOf
+unfolding rootOf leafIn leavesIn leafAt placeOf placeBy unsignedAt signed32 leafHolding rootCube holdsPoint axisHolds answerOf faceHolds pointCube along onward entryOf faceBounds boundsOf across difference stateOf faceState joinedBy otherwiseOf
 outside-3-0-0 = step-lookup (at 3 0)
 
 pub undecided-2-2-0 : lookupOf stepSheet stepMap (at 2 2) ≡ Done Undecided

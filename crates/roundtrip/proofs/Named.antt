@@ -17,7 +17,7 @@ use Rattle.cube.specs.declared.Cube.{Cube}
 use Rattle.zonemap.specs.Opening.{faceGood}
 use Rattle.colour.specs.declared.State.{State}
 use Rattle.colour.specs.declared.State.the-variants.{Out, In, Single, Comp, Mixed}
-use Rattle.colour.specs.States.{isIn, isOut, faceState, complementOf, bothOf, eitherOf, stateOf}
+use Rattle.colour.specs.States.{isIn, isOut, faceState, complementOf, otherwiseOf, joinedBy, stateOf}
 use Rattle.colour.specs.Entries.{Entry, blank, entryOf, entries}
 use Rattle.tree.specs.Solid.{solidState, leafBy}
 
@@ -46,20 +46,22 @@ module _ (rs : List Record) where
   complement-names (Comp f) h = h
   complement-names Mixed h = refl
 
-  -- one of the two states, a third that names none, or Mixed
-  one-names : (a b c : Bool) (s t u : State) → names s ≡ true → names t ≡ true → names u ≡ true → names (cond a u (cond b t (cond c s Mixed))) ≡ true
-  one-names true b c s t u hs ht hu = hu
-  one-names false true c s t u hs ht hu = ht
-  one-names false false true s t u hs ht hu = hs
-  one-names false false false s t u hs ht hu = refl
+  -- two states that neither decide nor leave it to the other
+  otherwise-names : (decided s t : State) → names s ≡ true → names t ≡ true → names (otherwiseOf decided s t) ≡ true
+  unfolding otherwiseOf
+  otherwise-names decided s t hs ht = refl
 
-  both-names : (s t : State) → names s ≡ true → names t ≡ true → names (bothOf s t) ≡ true
-  unfolding bothOf
-  both-names s t hs ht = one-names (isOut s || isOut t) (isIn s) (isIn t) s t Out hs ht refl
-
-  either-names : (s t : State) → names s ≡ true → names t ≡ true → names (eitherOf s t) ≡ true
-  unfolding eitherOf
-  either-names s t hs ht = one-names (isIn s || isIn t) (isOut s) (isOut t) s t In hs ht refl
+  -- both and either
+  joined-names : (decides : State → Bool) (decided : State) (leaves : State → Bool) → names decided ≡ true → (s t : State) → names s ≡ true → names t ≡ true
+      → names (joinedBy decides decided leaves s t) ≡ true
+  unfolding joinedBy
+  joined-names decides decided leaves hd s t hs ht = by (decides s || decides t) (leaves s) (leaves t)
+    where
+      by : (a b c : Bool) → names (cond a decided (cond b t (cond c s (otherwiseOf decided s t)))) ≡ true
+      by true b c = hd
+      by false true c = ht
+      by false false true = hs
+      by false false false = otherwise-names decided s t hs ht
 
   module _ (q : Cube) where
     abbrev itself : List Record → Record → Record
@@ -86,8 +88,8 @@ module _ (rs : List Record) where
     step-names before (Product a b) after e p = refl
     step-names before (Square a) after e p = refl
     step-names before (Face a) after e p = face-names _ _ (own before after a e)
-    step-names before (Both a b) after e p = both-names _ _ (p .each a) (p .each b)
-    step-names before (Either a b) after e p = either-names _ _ (p .each a) (p .each b)
+    step-names before (Both a b) after e p = joined-names isOut Out isIn refl _ _ (p .each a) (p .each b)
+    step-names before (Either a b) after e p = joined-names isIn In isOut refl _ _ (p .each a) (p .each b)
     step-names before (Complement a) after e p = complement-names (getD (along (entryOf q) before) a blank .state) (p .each a)
 
     state-names : (i : ℕ) → names (getD (entries q rs) i blank .state) ≡ true

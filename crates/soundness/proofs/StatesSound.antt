@@ -1,6 +1,6 @@
 -- States are sound: what a record's state over a closed cube says is so at every point of it, fractions included.
 use mathlib.Core.Path.{_≡_, refl, sym, ap, _∙_}
-use mathlib.Core.Bool.{Bool, true, false, cond, not, _&&_, _||_, and-true, and-false, or-true, or-false, Bool·not-not, true≢false}
+use mathlib.Core.Bool.{Bool, true, false, not, _&&_, _||_, and-true, and-false, or-true, or-false, Bool·not-not}
 use mathlib.Core.List.{List, _∷_, _++_}
 use Prim.Native.Nat.{ℕ, _^_, _<_}
 use native.Mathlib.Nat.{one-le-pow}
@@ -15,8 +15,9 @@ use Rattle.sheet.proofs.Along.{Pairs, length-along, entry, related-in}
 use Rattle.cube.specs.declared.Cube.{Cube}
 use Rattle.colour.specs.declared.State.{State}
 use Rattle.colour.specs.declared.State.the-variants.{Out, In, Single, Comp, Mixed}
-use Rattle.colour.specs.States.{isIn, isOut, faceState, complementOf, bothOf, eitherOf, stateOf}
+use Rattle.colour.specs.States.{isIn, isOut, faceState, complementOf, otherwiseOf, joinedBy, bothOf, eitherOf, stateOf}
 use Rattle.colour.specs.Entries.{Entry, blank, entryOf, entries}
+use Rattle.colour.proofs.Joined.{is-in, is-out}
 use Rattle.meaning.specs.Fractions.{FractionalPoint, InClosed}
 use Rattle.meaning.specs.Truth.{Value, atMostZero, Meaning, absent, holdsOf, meaningOf, meanings, holdsAt}
 use Rattle.soundness.specs.Claims.{HoldsValue, Sound}
@@ -51,44 +52,42 @@ module _ (face : ℕ → Bool) where
 
   in-holds : (s : State) (a : Bool) → isIn s ≡ true → Sound face s a → a ≡ true
   unfolding Sound
-  in-holds Out a e h = absurd (true≢false (sym e))
-  in-holds In a e h = h
-  in-holds (Single f) a e h = absurd (true≢false (sym e))
-  in-holds (Comp f) a e h = absurd (true≢false (sym e))
-  in-holds Mixed a e h = absurd (true≢false (sym e))
+  in-holds s a e h = rw (is-in s e) at h
 
   out-fails : (s : State) (a : Bool) → isOut s ≡ true → Sound face s a → a ≡ false
   unfolding Sound
-  out-fails Out a e h = h
-  out-fails In a e h = absurd (true≢false (sym e))
-  out-fails (Single f) a e h = absurd (true≢false (sym e))
-  out-fails (Comp f) a e h = absurd (true≢false (sym e))
-  out-fails Mixed a e h = absurd (true≢false (sym e))
+  out-fails s a e h = rw (is-out s e) at h
 
-  -- Both and either are one rule: a state that decides by itself, one that leaves the other's as it is, otherwise Mixed.
-  module _ (decides leaves : State → Bool) (decided : State) (join : Bool → Bool → Bool)
+  -- the one rule of both and either
+  module _ (decides : State → Bool) (decided : State) (leaves : State → Bool) (join : Bool → Bool → Bool)
       (first-decides : (s : State) (a b : Bool) → decides s ≡ true → Sound face s a → Sound face decided (join a b))
       (second-decides : (t : State) (a b : Bool) → decides t ≡ true → Sound face t b → Sound face decided (join a b))
       (first-leaves : (s : State) (a b : Bool) → leaves s ≡ true → Sound face s a → join a b ≡ b)
-      (second-leaves : (t : State) (a b : Bool) → leaves t ≡ true → Sound face t b → join a b ≡ a) where
-    joined : (s t : State) (a b : Bool) → Sound face s a → Sound face t b
-        → Sound face (cond (decides s || decides t) decided (cond (leaves s) t (cond (leaves t) s Mixed))) (join a b)
-    joined s t a b h k =
+      (second-leaves : (t : State) (a b : Bool) → leaves t ≡ true → Sound face t b → join a b ≡ a)
+      (s t : State) (a b : Bool) (h : Sound face s a) (k : Sound face t b) where
+    -- two states that neither decide nor leave it to the other
+    otherwise-sound : Sound face (otherwiseOf decided s t) (join a b)
+    unfolding otherwiseOf
+    otherwise-sound = mixed-sound (join a b)
+
+    joined-sound : Sound face (joinedBy decides decided leaves s t) (join a b)
+    unfolding joinedBy
+    joined-sound =
         by-test (decides s) (λ e. rw e (first-decides s a b e h))
         (λ e. by-test (decides t) (λ f. rw (e, f) (second-decides t a b f k))
         (λ f. by-test (leaves s) (λ g. rw (e, f, g, first-leaves s a b g h) k)
         (λ g. by-test (leaves t) (λ i. rw (e, f, g, i, second-leaves t a b i k) h)
-        (λ i. rw (e, f, g, i) (mixed-sound (join a b))))))
+        (λ i. rw (e, f, g, i) otherwise-sound))))
 
   pub both-sound : (s t : State) (a b : Bool) → Sound face s a → Sound face t b → Sound face (bothOf s t) (a && b)
-  unfolding bothOf Sound
+  unfolding Sound
   both-sound =
-      joined isOut isIn Out _&&_ (λ s a b e h. rw (out-fails s a e h)) (λ t a b e k. rw (out-fails t b e k) (and-false a)) (λ s a b e h. rw (in-holds s a e h)) (λ t a b e k. rw (in-holds t b e k) (and-true a))
+      joined-sound isOut Out isIn _&&_ (λ s a b e h. rw (out-fails s a e h)) (λ t a b e k. rw (out-fails t b e k) (and-false a)) (λ s a b e h. rw (in-holds s a e h)) (λ t a b e k. rw (in-holds t b e k) (and-true a))
 
   pub either-sound : (s t : State) (a b : Bool) → Sound face s a → Sound face t b → Sound face (eitherOf s t) (a || b)
-  unfolding eitherOf Sound
+  unfolding Sound
   either-sound =
-      joined isIn isOut In _||_ (λ s a b e h. rw (in-holds s a e h)) (λ t a b e k. rw (in-holds t b e k) (or-true a)) (λ s a b e h. rw (out-fails s a e h)) (λ t a b e k. rw (out-fails t b e k) (or-false a))
+      joined-sound isIn In isOut _||_ (λ s a b e h. rw (in-holds s a e h)) (λ t a b e k. rw (in-holds t b e k) (or-true a)) (λ s a b e h. rw (out-fails s a e h)) (λ t a b e k. rw (out-fails t b e k) (or-false a))
 
 -- ---- all records
 module _ (q : Cube) (p : FractionalPoint) (h : InClosed q p) (rs : List Record) where

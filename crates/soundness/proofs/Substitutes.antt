@@ -19,7 +19,7 @@ use Rattle.cube.specs.Cubes.{half}
 use Rattle.colour.specs.declared.State.{State}
 use Rattle.colour.specs.declared.State.the-variants.{Out, In, Single, Mixed}
 use Rattle.colour.specs.Bounds.{across, boundsOf}
-use Rattle.colour.specs.States.{isIn, isOut, faceState, bothOf, stateOf}
+use Rattle.colour.specs.States.{isIn, isOut, faceState, stateOf}
 use Rattle.colour.specs.Entries.{blank, faceBounds, entryOf, entries}
 use Rattle.meaning.specs.Fractions.{FractionalPoint, BetweenPlanes, InClosed}
 use Rattle.meaning.specs.Truth.{valueOf, holdsOf, meaningOf, holdsAt, inSolid}
@@ -113,7 +113,7 @@ abbrev edgeState : ℕ → State
 edgeState n = getD (entries (cube (negsuc 0) 2) edge) n blank .state
 
 single-kept : Unsound edge (cube (negsuc 0) 2) (keptOf (edgeState 2) (edgeState 3))
-unfolding keptOf entryOf faceBounds boundsOf stateOf across faceState bothOf Sound inSolid holdsAt along onward meaningOf valueOf holdsOf
+unfolding keptOf entryOf faceBounds boundsOf stateOf across faceState Sound inSolid holdsAt along onward meaningOf valueOf holdsOf
 single-kept = record {
   point = at (pos 0) (pos 1) 0;
   closed = record { x = lies tt tt; y = lies tt tt; z = lies tt tt };

@@ -33,15 +33,15 @@ abbrev Plain : ℕ → Type 0
 Plain d = (inLimits (stepRoot d) ≡ true) × (firstPast stepRecords (rootCube (stepRoot d)) ≡ []) × (pastInTree stepRecords d (rootCube (stepRoot d)) ≡ [])
 
 plain-0 : Plain 0
-unfolding inLimits sizesFit axisFits firstPast pastInTree visit upto isGray solidState along onward entryOf faceBounds boundsOf stateOf across sum difference faceState joinedBy otherwiseOf rootCube childOf beforePast isWithin isSmall
+unfolding inLimits sizesFit axisFits firstPast pastInTree visit upto isGray solidState along onward entryOf faceBounds boundsOf stateOf across sum difference faceState joinedBy otherwiseOf rootCube childOf pastFrom isWithin isSmall
 plain-0 = (refl, refl, refl)
 
 plain-1 : Plain 1
-unfolding inLimits sizesFit axisFits firstPast pastInTree visit upto isGray solidState along onward entryOf faceBounds boundsOf stateOf across sum difference faceState joinedBy otherwiseOf rootCube childOf beforePast isWithin isSmall
+unfolding inLimits sizesFit axisFits firstPast pastInTree visit upto isGray solidState along onward entryOf faceBounds boundsOf stateOf across sum difference faceState joinedBy otherwiseOf rootCube childOf pastFrom isWithin isSmall
 plain-1 = (refl, refl, refl)
 
 plain-2 : Plain 2
-unfolding inLimits sizesFit axisFits firstPast pastInTree visit upto isGray solidState along onward entryOf faceBounds boundsOf stateOf across sum difference faceState joinedBy otherwiseOf rootCube childOf beforePast isWithin isSmall
+unfolding inLimits sizesFit axisFits firstPast pastInTree visit upto isGray solidState along onward entryOf faceBounds boundsOf stateOf across sum difference faceState joinedBy otherwiseOf rootCube childOf pastFrom isWithin isSmall
 plain-2 = (refl, refl, refl)
 
 step-build : (d : ℕ) → Plain d → (out : List ℕ) → buildOf stepSheet (stepRoot d) out ≡ storedOf (builtMap stepRecords (stepRoot d)) out

@@ -4,7 +4,6 @@ use mathlib.Core.Bool.{false}
 use mathlib.Core.List.{List, [], _∷_, _++_, append-assoc}
 use Prim.Native.Nat.{ℕ, _+_, _≤_, _<_}
 use native.Mathlib.Omega.{arith}
-use borrow.Author.Tests.{lt-ltb, le-ltb}
 use lib.IntN.{pos}
 use mir.Syntax.{w64}
 use mir.Val.{toZ, ofZ}
@@ -39,7 +38,7 @@ use Rattle.colour.specs.Bounds.{boundsOf}
 use Rattle.colour.specs.States.{classOf, faceOf, stateOf}
 use Rattle.colour.specs.Held.{stateBy}
 use Rattle.colour.specs.Held.{Held, heldAt}
-use Rattle.colour.specs.Entries.{Entry, blank, faceBounds, entryOf, entries, beforePast, judgedOf}
+use Rattle.colour.specs.Entries.{Entry, blank, faceBounds, entryOf, entries, pastFrom, firstPast, judgedOf}
 use Rattle.colour.proofs.Arms.{zero-small}
 use Rattle.colour.proofs.FirstPast.{Keep, first-past, none-past, keep-more}
 
@@ -115,11 +114,11 @@ module _ (s : List ℕ) (q : Cube) (b : Bounds) (classes faces : List ℕ) (w : 
 
   -- at the end all records are done
   pub judged-end : (which : ℕ) (k : State) → length rs ≤ n → k ≡ stated which → Known k ≡ judgedOf rs q which
-  unfolding judgedOf
+  unfolding judgedOf firstPast
   judged-end which k h e =
       let t : take n rs ≡ rs = take-all n rs h in
-      let p : beforePast (entries q rs) ≡ length rs = rw t at (none-past (done s q n) (w .keep)) ∙ length-along (entryOf q) rs in
-      rw (p, le-ltb (length rs) (length rs) (omega arith)) (ap Known (e ∙ coloured which ∙ ap (λ (l : List Record). getD (entries q l) which blank .state) t))
+      let p : pastFrom 0 (entries q rs) ≡ [] = rw t at (none-past 0 (done s q n) (w .keep)) in
+      rw p (ap Known (e ∙ coloured which ∙ ap (λ (l : List Record). getD (entries q l) which blank .state) t))
 
   -- one record more: r stands there
   module _ (more : n < length rs) (at : ℕ) (there : at ≡ offsetOf s n) (r : Record) (row : rowAt s at ≡ Fits r) where
@@ -159,11 +158,11 @@ module _ (s : List ℕ) (q : Cube) (b : Bounds) (classes faces : List ℕ) (w : 
 
     module _ (got : Bounded) (eb : got ≡ boundedOf (boundsOf q (heldAt (b .low) (b .high) first) (heldAt (b .low) (b .high) second) r)) where
       pub judged-past : (which : ℕ) → got ≡ Over → Past n ≡ judgedOf rs q which
-      unfolding judgedOf
+      unfolding judgedOf firstPast
       judged-past which h =
           let f : isWithin (this .bounds) ≡ false = rw bounds-are at (past-tells got (boundsOf q (heldAt (b .low) (b .high) first) (heldAt (b .low) (b .high) second) r) eb h) in
-          let p : beforePast (entries q rs) ≡ n = ap beforePast cut ∙ first-past (done s q n) this (drop (n + 1) (entries q rs)) (w .keep) f ∙ long in
-          rw (p, lt-ltb n (length rs) more)
+          let p : pastFrom 0 (entries q rs) ≡ n ∷ [] = ap (pastFrom 0) cut ∙ first-past 0 n (done s q n) this (drop (n + 1) (entries q rs)) (w .keep) f (omega (arith, long)) in
+          rw p
 
       module _ (v : Interval) (ev : got ≡ Within v) where
         exact : v ≡ this .bounds

@@ -2,13 +2,13 @@
 use mathlib.Core.Path.{_≡_, refl, ap}
 use mathlib.Core.Bool.{false}
 use mathlib.Core.List.{List, [], _∷_, _++_}
-use Prim.Native.Nat.{ℕ, zero, suc, _≤_}
+use Prim.Native.Nat.{ℕ, zero, suc, _+_}
 use native.Mathlib.Omega.{arith}
 use lib.ListN.{length, getD}
 use Rattle.integers.proofs.Order.{by-test}
 use Rattle.interval.specs.Limit.{SmallEnds, isWithin}
 use Rattle.interval.proofs.Facts.{ends-within, within-ends}
-use Rattle.colour.specs.Entries.{Entry, blank, beforePast}
+use Rattle.colour.specs.Entries.{Entry, blank, pastFrom}
 use Rattle.colour.proofs.Arms.{zero-small}
 
 -- all of these keep it
@@ -16,28 +16,37 @@ abbrev pub Keep : List Entry → Type 0
 Keep es = (a : ℕ) → SmallEnds (getD es a blank .bounds)
 
 -- where those before an entry keep the limit and it does not, it is the first
-pub first-past : (es : List Entry) (e : Entry) (after : List Entry) → Keep es → isWithin (e .bounds) ≡ false → beforePast (es ++ e ∷ after) ≡ length es
-unfolding beforePast
-first-past [] e after k p = rw p
-first-past (x ∷ es) e after k p = rw (ends-within (x .bounds) (k 0)) (ap suc (first-past es e after (λ a. k (suc a)) p))
+pub first-past : (n m : ℕ) (es : List Entry) (e : Entry) (after : List Entry) → Keep es → isWithin (e .bounds) ≡ false → m ≡ n + length es → pastFrom n (es ++ e ∷ after) ≡ m ∷ []
+unfolding pastFrom
+first-past n m [] e after k p h = rw p (let z : n ≡ m = omega arith in ap (λ (i : ℕ). i ∷ []) z)
+first-past n m (x ∷ es) e after k p h = rw (ends-within (x .bounds) (k 0)) (first-past (suc n) m es e after (λ a. k (suc a)) p (omega arith))
 
-pub none-past : (es : List Entry) → Keep es → beforePast es ≡ length es
-unfolding beforePast
-none-past [] k = refl
-none-past (x ∷ es) k = rw (ends-within (x .bounds) (k 0)) (ap suc (none-past es (λ a. k (suc a))))
+-- where all keep it, there is none
+pub none-past : (n : ℕ) (es : List Entry) → Keep es → pastFrom n es ≡ []
+unfolding pastFrom
+none-past n [] k = refl
+none-past n (x ∷ es) k = rw (ends-within (x .bounds) (k 0)) (none-past (suc n) es (λ a. k (suc a)))
+
+-- where there is none, all keep it
+pub all-keep : (n : ℕ) (es : List Entry) → pastFrom n es ≡ [] → Keep es
+unfolding pastFrom
+all-keep n [] h a = zero-small
+all-keep n (x ∷ es) h a =
+    by-test (isWithin (x .bounds)) (λ t. keep-before x es (within-ends (x .bounds) t) (all-keep (suc n) es (rw t at h)) a)
+    (λ t. let z : (n ∷ []) ≡ [] = rw t at h in let y : _≡_ {A = ℕ} 0 1 = cc in absurd (omega arith))
+  where
+    keep-before : (e : Entry) (fs : List Entry) → SmallEnds (e .bounds) → Keep fs → Keep (e ∷ fs)
+    keep-before e fs s k zero = s
+    keep-before e fs s k (suc b) = k b
+
+-- there is none, or one
+pub past-cases : {A : Type 0} (n : ℕ) (es : List Entry) → (pastFrom n es ≡ [] → A) → ((m : ℕ) → pastFrom n es ≡ m ∷ [] → A) → A
+unfolding pastFrom
+past-cases n [] f g = f refl
+past-cases n (e ∷ es) f g = by-test (isWithin (e .bounds)) (λ t. past-cases (suc n) es (λ h. f (rw t h)) (λ m h. g m (rw t h))) (λ t. g n (rw t))
 
 pub keep-more : (es : List Entry) (e : Entry) → Keep es → SmallEnds (e .bounds) → Keep (es ++ e ∷ [])
 keep-more [] e k h zero = h
 keep-more [] e k h (suc a) = k (suc a)
 keep-more (x ∷ es) e k h zero = k zero
 keep-more (x ∷ es) e k h (suc a) = keep-more es e (λ b. k (suc b)) h a
-
--- where none passes it, all keep it
-pub all-keep : (es : List Entry) → length es ≤ beforePast es → Keep es
-unfolding beforePast
-all-keep [] h a = zero-small
-all-keep (x ∷ es) h zero = by-test (isWithin (x .bounds)) (λ t. within-ends (x .bounds) t) (λ t. let z : suc (length es) ≤ 0 = rw t at h in let y : ⊥ = omega arith in absurd y)
-all-keep (x ∷ es) h (suc a) =
-    by-test (isWithin (x .bounds))
-    (λ t. all-keep es (let z : suc (length es) ≤ suc (beforePast es) = rw t at h in omega arith) a)
-    (λ t. let z : suc (length es) ≤ 0 = rw t at h in let y : ⊥ = omega arith in absurd y)

@@ -1,26 +1,24 @@
 -- Over a cube that lies in another, each record's bounds lie in its bounds over the other. So where none passes the limit over a cube, none does over a smaller one.
 use mathlib.Core.Path.{_≡_}
-use mathlib.Core.List.{List, [], _∷_}
+use mathlib.Core.List.{List, []}
 use Prim.Native.Nat.{ℕ, _≤_, _^_}
 use native.Mathlib.Omega.{arith}
-use borrow.Author.Tests.{ltb-false, le-ltb}
-use lib.Dec.{ltb}
 use lib.IntN.{ℤ, pos, negsuc, natAbs, _+ℤ_}
-use lib.ListN.{length, getD}
+use lib.ListN.{getD}
 use lib.Signed.{_≤ℤ_}
 use Rattle.integers.proofs.Naturals.{ints, +-is}
-use Rattle.integers.proofs.Order.{by-test, ≤-trans}
+use Rattle.integers.proofs.Order.{≤-trans}
 use Rattle.interval.specs.declared.Interval.{Interval}
 use Rattle.interval.specs.Limit.{SmallEnds}
 use Rattle.interval.specs.Claims.{Inside}
 use Rattle.interval.proofs.Inside.{only-inside, sum-inside, difference-inside, product-inside, square-inside}
 use Rattle.sheet.specs.declared.Record.{Record}
 use Rattle.sheet.specs.declared.Record.the-variants.{Constant, X, Y, Z, Sum, Difference, Product, Square, Face, Both, Either, Complement}
-use Rattle.sheet.proofs.Along.{Pairs, related, length-along}
+use Rattle.sheet.proofs.Along.{Pairs, related}
 use Rattle.cube.specs.declared.Cube.{Cube}
 use Rattle.cube.specs.Points.{CubeInside}
 use Rattle.colour.specs.Bounds.{across, boundsOf}
-use Rattle.colour.specs.Entries.{Entry, blank, entryOf, entries, beforePast, firstPast}
+use Rattle.colour.specs.Entries.{Entry, blank, entryOf, entries, firstPast}
 use Rattle.colour.proofs.FirstPast.{Keep, none-past, all-keep}
 
 across-inside : (a b : ℤ) (n m : ℕ) → b ≤ℤ a → (a +ℤ pos n) ≤ℤ (b +ℤ pos m) → Inside (across a n) (across b m)
@@ -68,15 +66,11 @@ inside-small i j h s =
 -- no record passes the limit exactly where all entries keep it
 pub none-keep : (rs : List Record) (q : Cube) → firstPast rs q ≡ [] → Keep (entries q rs)
 unfolding firstPast
-none-keep rs q e =
-    by-test (ltb (beforePast (entries q rs)) (length rs))
-    (λ t. let z : (beforePast (entries q rs) ∷ []) ≡ [] = rw t at e in let y : _≡_ {A = ℕ} 0 1 = cc in absurd (omega arith))
-    (λ t. all-keep (entries q rs) (omega (arith, ltb-false (beforePast (entries q rs)) (length rs) t, length-along (entryOf q) rs)))
+none-keep rs q e = all-keep 0 (entries q rs) e
 
 pub keep-none : (rs : List Record) (q : Cube) → Keep (entries q rs) → firstPast rs q ≡ []
 unfolding firstPast
-keep-none rs q k =
-    rw (le-ltb (beforePast (entries q rs)) (length rs) (omega (arith, none-past (entries q rs) k, length-along (entryOf q) rs)))
+keep-none rs q k = none-past 0 (entries q rs) k
 
 pub none-smaller : (q outer : Cube) → CubeInside q outer → (rs : List Record) → firstPast rs outer ≡ [] → firstPast rs q ≡ []
 none-smaller q outer h rs e = keep-none rs q (λ a. inside-small _ _ (bounds-inside q outer h rs a) (none-keep rs outer e a))

@@ -3,15 +3,14 @@ use mathlib.Core.Path.{_≡_, ap, _∙_}
 use mathlib.Core.List.{List, [], _∷_}
 use Prim.Native.Nat.{ℕ}
 use native.Mathlib.Omega.{arith}
-use lib.Dec.{ltb}
-use lib.ListN.{length, getD}
-use Rattle.integers.proofs.Order.{by-test}
+use lib.ListN.{getD}
 use Rattle.sheet.specs.declared.Record.{Record}
 use Rattle.cube.specs.declared.Cube.{Cube}
 use Rattle.colour.specs.declared.State.{State}
 use Rattle.colour.specs.declared.Judged.{Judged}
 use Rattle.colour.specs.declared.Judged.the-variants.{Known, Past}
-use Rattle.colour.specs.Entries.{blank, entries, beforePast, judgedOf, firstPast}
+use Rattle.colour.specs.Entries.{blank, entries, judgedOf, firstPast}
+use Rattle.colour.proofs.FirstPast.{past-cases}
 
 -- q, the cube that was judged, is the one that is spoken of
 module _ (rs : List Record) (of q : Cube) (is : q ≡ of) (which : ℕ) (j : Judged) (e : j ≡ judgedOf rs q which) where
@@ -23,7 +22,7 @@ module _ (rs : List Record) (of q : Cube) (is : q ≡ of) (which : ℕ) (j : Jud
   unfolding judgedOf firstPast
   cases f g =
       let t = e ∙ ap (λ (k : Cube). judgedOf rs k which) is in
-      by-test (ltb (beforePast (entries of rs)) (length rs)) (λ b. g (beforePast (entries of rs)) (rw b) (t ∙ rw b)) (λ b. f (rw b) (t ∙ rw b))
+      past-cases 0 (entries of rs) (λ h. f h (t ∙ rw h)) (λ n h. g n h (t ∙ rw h))
 
   pub known-none : (state : State) → j ≡ Known state → firstPast rs of ≡ []
   known-none state k = cases (λ p i. p) (λ n p i. let z : _≡_ {A = ℕ} 0 1 = cc in absurd (omega arith))

@@ -2,8 +2,8 @@
 use Prim.Native.Nat.{ℕ, suc}
 use mathlib.Core.Bool.{cond}
 use mathlib.Core.List.{List, [], _∷_}
-use lib.Dec.{ltb}
 use lib.ListN.{length, getD}
+use Rattle.integers.specs.First.{onFirst}
 use Rattle.interval.specs.declared.Interval.{Interval}
 use Rattle.interval.specs.Limit.{isWithin}
 use Rattle.sheet.specs.declared.Record.{Record}
@@ -44,16 +44,15 @@ entryOf q before r =
 abbrev pub entries : Cube → List Record → List Entry
 entries q = along (entryOf q)
 
--- how many records come before the first whose bounds pass 2^60; where none does, how many there are
-unfoldable pub beforePast : List Entry → ℕ
-beforePast [] = 0
-beforePast (e ∷ es) = cond (isWithin (e .bounds)) (suc (beforePast es)) 0
-
--- the state of record n over a cube, or the first record whose bounds pass 2^60
-unfoldable pub judgedOf : List Record → Cube → ℕ → Judged
-judgedOf rs q n =
-    cond (ltb (beforePast (entries q rs)) (length rs)) (Past (beforePast (entries q rs))) (Known (getD (entries q rs) n blank .state))
+-- of entries whose first is that of record n: the first record whose bounds pass 2^60, where one does
+unfoldable pub pastFrom : ℕ → List Entry → List ℕ
+pastFrom n [] = []
+pastFrom n (e ∷ es) = cond (isWithin (e .bounds)) (pastFrom (suc n) es) (n ∷ [])
 
 -- the first record whose bounds over a cube pass 2^60, where one does
 unfoldable pub firstPast : List Record → Cube → List ℕ
-firstPast rs q = cond (ltb (beforePast (entries q rs)) (length rs)) (beforePast (entries q rs) ∷ []) []
+firstPast rs q = pastFrom 0 (entries q rs)
+
+-- the state of record n over a cube, or the first record whose bounds pass 2^60
+unfoldable pub judgedOf : List Record → Cube → ℕ → Judged
+judgedOf rs q n = onFirst (firstPast rs q) Past (Known (getD (entries q rs) n blank .state))

@@ -37,7 +37,7 @@ opens = refl
 
 -- no record passes the limit over its root
 none : firstPast stepRecords (rootCube (rootOf stepMap)) ≡ []
-unfolding firstPast beforePast along onward entryOf faceBounds boundsOf across difference isWithin isSmall stateOf faceState joinedBy otherwiseOf rootCube rootOf unsignedAt signed32
+unfolding firstPast pastFrom along onward entryOf faceBounds boundsOf across difference isWithin isSmall stateOf faceState joinedBy otherwiseOf rootCube rootOf unsignedAt signed32
 none = refl
 
 -- so a point is out of the root, or its leaf answers

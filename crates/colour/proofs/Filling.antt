@@ -4,9 +4,9 @@ use mathlib.Core.Bool.{false}
 use mathlib.Core.List.{List, [], _∷_, _++_, append-assoc}
 use Prim.Native.Nat.{ℕ, _+_, _≤_, _<_}
 use native.Mathlib.Omega.{arith}
-use lib.IntN.{pos}
+use lib.IntN.{ℤ, pos}
 use mir.Syntax.{w64}
-use mir.Val.{toZ, ofZ}
+use mir.Val.{Fits, toZ, ofZ}
 use lib.ListN.{length, getD, take, drop, set, replicate, length-set, length-take, take-append-drop}
 use lib.Seq.{take-all}
 use Rattle.interval.specs.declared.Interval.{Interval}
@@ -18,8 +18,8 @@ use Rattle.interval.proofs.Limit.{limit-back}
 use Rattle.interval.proofs.Facts.{past-tells, within-is, within-small}
 use Rattle.sheet.specs.declared.Record.{Record}
 use Rattle.sheet.specs.declared.Record.the-variants.{X}
-use Rattle.sheet.specs.declared.Row.the-variants.{Known as Fits}
-use Rattle.sheet.specs.Table.{rowAt}
+use Rattle.sheet.specs.declared.Row.the-variants.{Known as IsRecord}
+use Rattle.sheet.specs.Table.{rowAt, Stands}
 use Rattle.sheet.specs.Records.{recordsOf}
 use Rattle.sheet.specs.Operands.{firstOf, secondOf}
 use Rattle.sheet.specs.Along.{along, onward}
@@ -27,12 +27,11 @@ use Rattle.sheet.proofs.Along.{along-more, length-along, take-along}
 use Rattle.sheet.proofs.Walk.{Before, stands-taken}
 use Rattle.sheet.proofs.Good.{records-few}
 use Rattle.sheet.proofs.Arrays.{Reads, reads-more, filled-with}
-use Rattle.records.specs.Offsets.{offsetOf}
-use Rattle.records.proofs.Listed.{before-offset}
+use Rattle.records.specs.Offsets.{Offsets}
+use Rattle.records.proofs.Listed.{before-offset, listed-stands}
 use Rattle.cube.specs.declared.Cube.{Cube}
 use Rattle.colour.specs.declared.State.{State}
 use Rattle.colour.specs.declared.State.the-variants.{Out, In, Single, Comp, Mixed}
-use Rattle.colour.specs.declared.Bounds.{Bounds}
 use Rattle.colour.specs.declared.Judged.the-variants.{Known, Past}
 use Rattle.colour.specs.Bounds.{boundsOf}
 use Rattle.colour.specs.States.{classOf, faceOf, stateOf}
@@ -47,22 +46,27 @@ use Rattle.colour.proofs.FirstPast.{Keep, first-past, none-past, keep-m
 abbrev done : List ℕ → Cube → ℕ → List Entry
 done s q n = entries q (take n (recordsOf s))
 
-pub record Filling (s : List ℕ) (q : Cube) (b : Bounds) (classes faces : List ℕ) : Type 0 where
-  pub among : b .count ≤ length (recordsOf s)
-  pub low-long : length (b .low) ≡ 256
-  pub high-long : length (b .high) ≡ 256
+pub record Filling (s offsets : List ℕ) (count : ℕ) (q : Cube) (low high : List ℤ) (n : ℕ) (classes faces : List ℕ) : Type 0 where
+  pub listed : Offsets offsets s
+  pub all : count ≡ length (recordsOf s)
+  pub among : n ≤ length (recordsOf s)
+  pub low-long : length low ≡ 256
+  pub high-long : length high ≡ 256
   pub classes-long : length classes ≡ 256
   pub faces-long : length faces ≡ 256
-  pub lows : Reads (λ e. e .bounds .low) blank (b .low) (done s q (b .count))
-  pub highs : Reads (λ e. e .bounds .high) blank (b .high) (done s q (b .count))
-  pub classed : Reads (λ e. classOf (e .state)) blank classes (done s q (b .count))
-  pub faced : Reads (λ e. faceOf (e .state)) blank faces (done s q (b .count))
-  pub keep : Keep (done s q (b .count))
+  pub lows : Reads (λ e. e .bounds .low) blank low (done s q n)
+  pub highs : Reads (λ e. e .bounds .high) blank high (done s q n)
+  pub classed : Reads (λ e. classOf (e .state)) blank classes (done s q n)
+  pub faced : Reads (λ e. faceOf (e .state)) blank faces (done s q n)
+  pub keep : Keep (done s q n)
 
-pub filling-start : (s : List ℕ) (q : Cube) → Filling s q (record { low = replicate 256 (pos 0); high = replicate 256 (pos 0); count = 0 }) (replicate 256 0) (replicate 256 0)
+pub filling-start : (s offsets : List ℕ) (count : ℕ) (q : Cube) → Offsets offsets s → count ≡ length (recordsOf s)
+    → Filling s offsets count q (replicate 256 (pos 0)) (replicate 256 (pos 0)) 0 (replicate 256 0) (replicate 256 0)
 unfolding along onward
-filling-start s q =
+filling-start s offsets count q listed all =
     record {
+      listed = listed;
+      all = all;
       among = omega arith;
       low-long = refl;
       high-long = refl;
@@ -84,26 +88,23 @@ back-again (Single f) = refl
 back-again (Comp f) = refl
 back-again Mixed = refl
 
-module _ (s : List ℕ) (q : Cube) (b : Bounds) (classes faces : List ℕ) (w : Filling s q b classes faces) where
+module _ (s offsets : List ℕ) (count : ℕ) (q : Cube) (low high : List ℤ) (n : ℕ) (classes faces : List ℕ) (w : Filling s offsets count q low high n classes faces) where
   abbrev rs : List Record
   rs = recordsOf s
-
-  abbrev n : ℕ
-  n = b .count
 
   -- what is read of an operand
   abbrev known : ℕ → Entry
   known a = getD (done s q n) a blank
 
-  operand : (a : ℕ) → heldAt (b .low) (b .high) a ≡ known a .bounds
+  operand : (a : ℕ) → heldAt low high a ≡ known a .bounds
   operand a = λ k. from (w .lows a k) (w .highs a k)
 
   -- what is read for a face is what it is given
-  given : (a : ℕ) → heldAt (b .low) (b .high) a ≡ faceBounds q (known a)
+  given : (a : ℕ) → heldAt low high a ≡ faceBounds q (known a)
   unfolding faceBounds
   given a = operand a
 
-  pub held : Held (b .low) (b .high)
+  pub held : Held low high
   held = record { lows = w .low-long; highs = w .high-long; small = λ a. rw (operand a) (w .keep a) }
 
   abbrev stated : ℕ → State
@@ -112,16 +113,33 @@ module _ (s : List ℕ) (q : Cube) (b : Bounds) (classes faces : List ℕ) (w : 
   coloured : (a : ℕ) → stated a ≡ known a .state
   coloured a = rw (w .classed a, w .faced a) (back-again (known a .state))
 
+  -- ---- the number of the next record
+  module _ (left : n < count) where
+    pub number-few : n < 256
+    number-few = omega (arith, records-few s, w .all)
+
+    pub number-next : Fits w64 (n + 1)
+    number-next = omega (arith, number-few)
+
+    pub number-listed : n < length offsets
+    number-listed = omega (arith, number-few, w .listed .long)
+
+    pub stands-listed : Stands s (getD offsets n 0)
+    stands-listed = listed-stands offsets s (w .listed) n (omega (arith, w .all))
+
   -- at the end all records are done
-  pub judged-end : (which : ℕ) (k : State) → length rs ≤ n → k ≡ stated which → Known k ≡ judgedOf rs q which
+  pub judged-end : (which : ℕ) (k : State) → count ≤ n → k ≡ stated which → Known k ≡ judgedOf rs q which
   unfolding judgedOf firstPast
   judged-end which k h e =
-      let t : take n rs ≡ rs = take-all n rs h in
+      let t : take n rs ≡ rs = take-all n rs (omega (arith, w .all)) in
       let p : pastFrom 0 (entries q rs) ≡ [] = rw t at (none-past 0 (done s q n) (w .keep)) in
       rw p (ap Known (e ∙ coloured which ∙ ap (λ (l : List Record). getD (entries q l) which blank .state) t))
 
-  -- one record more: r stands there
-  module _ (more : n < length rs) (at : ℕ) (there : at ≡ offsetOf s n) (r : Record) (row : rowAt s at ≡ Fits r) where
+  -- one record more: r stands where the list of offsets says
+  module _ (left : n < count) (r : Record) (row : rowAt s (getD offsets n 0) ≡ IsRecord r) where
+    more : n < length rs
+    more = omega (arith, w .all)
+
     long : length (done s q n) ≡ n
     long = length-along (entryOf q) (take n rs) ∙ (omega (arith, length-take n rs))
 
@@ -135,19 +153,19 @@ module _ (s : List ℕ) (q : Cube) (b : Bounds) (classes faces : List ℕ) (w : 
     abbrev second : ℕ
     second = secondOf r
 
-    bounds-are : boundsOf q (heldAt (b .low) (b .high) first) (heldAt (b .low) (b .high) second) r ≡ this .bounds
+    bounds-are : boundsOf q (heldAt low high first) (heldAt low high second) r ≡ this .bounds
     unfolding entryOf
     bounds-are = rw (operand first, operand second)
 
-    state-is : stateOf n (heldAt (b .low) (b .high) first) (stated first) (stated second) r ≡ this .state
+    state-is : stateOf n (heldAt low high first) (stated first) (stated second) r ≡ this .state
     unfolding entryOf
     state-is = rw (given first, coloured first, coloured second, long)
 
-    walk : Before s at n
-    walk = rw there (before-offset s n (w .among))
+    walk : Before s (getD offsets n 0) n
+    walk = rw (w .listed .each n more) (before-offset s n (w .among))
 
     grown : done s q (n + 1) ≡ done s q n ++ this ∷ []
-    grown = ap (entries q) (stands-taken s at n walk more r row X) ∙ along-more (entryOf q) (take n rs) r
+    grown = ap (entries q) (stands-taken s (getD offsets n 0) n walk more r row X) ∙ along-more (entryOf q) (take n rs) r
 
     -- all entries: those before it, its own, and those after it
     cut : entries q rs ≡ done s q n ++ (this ∷ drop (n + 1) (entries q rs))
@@ -156,33 +174,35 @@ module _ (s : List ℕ) (q : Cube) (b : Bounds) (classes faces : List ℕ) (w : 
         ∙ ap (λ (l : List Entry). l ++ drop (n + 1) (entries q rs)) (take-along (entryOf q) rs (n + 1) (omega arith) ∙ grown)
         ∙ append-assoc (done s q n) (this ∷ []) (drop (n + 1) (entries q rs))
 
-    module _ (got : Bounded) (eb : got ≡ boundedOf (boundsOf q (heldAt (b .low) (b .high) first) (heldAt (b .low) (b .high) second) r)) where
+    module _ (got : Bounded) (eb : got ≡ boundedOf (boundsOf q (heldAt low high first) (heldAt low high second) r)) where
       pub judged-past : (which : ℕ) → got ≡ Over → Past n ≡ judgedOf rs q which
       unfolding judgedOf firstPast
       judged-past which h =
-          let f : isWithin (this .bounds) ≡ false = rw bounds-are at (past-tells got (boundsOf q (heldAt (b .low) (b .high) first) (heldAt (b .low) (b .high) second) r) eb h) in
+          let f : isWithin (this .bounds) ≡ false = rw bounds-are at (past-tells got (boundsOf q (heldAt low high first) (heldAt low high second) r) eb h) in
           let p : pastFrom 0 (entries q rs) ≡ n ∷ [] = ap (pastFrom 0) cut ∙ first-past 0 n (done s q n) this (drop (n + 1) (entries q rs)) (w .keep) f (omega (arith, long)) in
           rw p
 
       module _ (v : Interval) (ev : got ≡ Within v) where
         exact : v ≡ this .bounds
-        exact = within-is got (boundsOf q (heldAt (b .low) (b .high) first) (heldAt (b .low) (b .high) second) r) eb v ev ∙ bounds-are
+        exact = within-is got (boundsOf q (heldAt low high first) (heldAt low high second) r) eb v ev ∙ bounds-are
 
-        pub filling-next : (state : State) (class face : ℕ) → state ≡ stateOf n (heldAt (b .low) (b .high) first) (stated first) (stated second) r → class ≡ classOf state → face ≡ faceOf state
-            → Filling s q (record { low = set (b .low) n (toZ w64 (ofZ w64 (v .low))); high = set (b .high) n (toZ w64 (ofZ w64 (v .high))); count = n + 1 }) (set classes n class) (set faces n face)
+        pub filling-next : (state : State) (class face : ℕ) → state ≡ stateOf n (heldAt low high first) (stated first) (stated second) r → class ≡ classOf state → face ≡ faceOf state
+            → Filling s offsets count q (set low n (toZ w64 (ofZ w64 (v .low)))) (set high n (toZ w64 (ofZ w64 (v .high)))) (n + 1) (set classes n class) (set faces n face)
         filling-next state class face h ec ef =
-            let small = within-small got (boundsOf q (heldAt (b .low) (b .high) first) (heldAt (b .low) (b .high) second) r) eb v ev in
-            let low = limit-back (v .low) (small .low) in
-            let high = limit-back (v .high) (small .high) in
+            let small = within-small got (boundsOf q (heldAt low high first) (heldAt low high second) r) eb v ev in
+            let low-back = limit-back (v .low) (small .low) in
+            let high-back = limit-back (v .high) (small .high) in
             let is = h ∙ state-is in
             record {
+              listed = w .listed;
+              all = w .all;
               among = omega arith;
-              low-long = length-set (b .low) n _ ∙ w .low-long;
-              high-long = length-set (b .high) n _ ∙ w .high-long;
+              low-long = length-set low n _ ∙ w .low-long;
+              high-long = length-set high n _ ∙ w .high-long;
               classes-long = length-set classes n class ∙ w .classes-long;
               faces-long = length-set faces n face ∙ w .faces-long;
-              lows = rw grown (reads-more (λ e. e .bounds .low) blank this _ (b .low) (done s q n) n long (omega (arith, records-few s, w .low-long)) (low ∙ ap (λ (k : Interval). k .low) exact) (w .lows));
-              highs = rw grown (reads-more (λ e. e .bounds .high) blank this _ (b .high) (done s q n) n long (omega (arith, records-few s, w .high-long)) (high ∙ ap (λ (k : Interval). k .high) exact) (w .highs));
+              lows = rw grown (reads-more (λ e. e .bounds .low) blank this _ low (done s q n) n long (omega (arith, records-few s, w .low-long)) (low-back ∙ ap (λ (k : Interval). k .low) exact) (w .lows));
+              highs = rw grown (reads-more (λ e. e .bounds .high) blank this _ high (done s q n) n long (omega (arith, records-few s, w .high-long)) (high-back ∙ ap (λ (k : Interval). k .high) exact) (w .highs));
               classed = rw grown (reads-more (λ e. classOf (e .state)) blank this class classes (done s q n) n long (omega (arith, records-few s, w .classes-long)) (ec ∙ ap classOf is) (w .classed));
               faced = rw grown (reads-more (λ e. faceOf (e .state)) blank this face faces (done s q n) n long (omega (arith, records-few s, w .faces-long)) (ef ∙ ap faceOf is) (w .faced));
               keep = rw grown (keep-more (done s q n) this (w .keep) (rw exact at small));

@@ -42,8 +42,7 @@ held-at-requires-2 : tie.Need-held-at-requires-2
 held-at-requires-2 c κs = search needs
 
 sum-requires : tie.Need-sum-requires
-sum-requires c κs =
-    (held-small (c .before .before .before .before .before .args .low .now) (c .before .before .before .before .before .args .high .now) _ _ (c .before .before .before .before .before .pre .1) (c .before .held-at .ensures), held-small (c .before .before .before .before .before .args .low .now) (c .before .before .before .before .before .args .high .now) _ _ (c .before .before .before .before .before .pre .1) (c .held-at2 .ensures))
+sum-requires c κs = search (needs, held-small)
 
 enum-known-r-3 : tie.Need-enum-known-r-3
 enum-known-r-3 c = search needs
@@ -55,8 +54,7 @@ held-at-requires-4 : tie.Need-held-at-requires-4
 held-at-requires-4 c κs = search needs
 
 difference-requires : tie.Need-difference-requires
-difference-requires c κs =
-    (held-small (c .before .before .before .before .before .args .low .now) (c .before .before .before .before .before .args .high .now) _ _ (c .before .before .before .before .before .pre .1) (c .before .held-at3 .ensures), held-small (c .before .before .before .before .before .args .low .now) (c .before .before .before .before .before .args .high .now) _ _ (c .before .before .before .before .before .pre .1) (c .held-at4 .ensures))
+difference-requires c κs = search (needs, held-small)
 
 enum-known-r-4 : tie.Need-enum-known-r-4
 enum-known-r-4 c = search needs
@@ -68,8 +66,7 @@ held-at-requires-6 : tie.Need-held-at-requires-6
 held-at-requires-6 c κs = search needs
 
 product-requires : tie.Need-product-requires
-product-requires c κs =
-    (held-small (c .before .before .before .before .before .args .low .now) (c .before .before .before .before .before .args .high .now) _ _ (c .before .before .before .before .before .pre .1) (c .before .held-at5 .ensures), held-small (c .before .before .before .before .before .args .low .now) (c .before .before .before .before .before .args .high .now) _ _ (c .before .before .before .before .before .pre .1) (c .held-at6 .ensures))
+product-requires c κs = search (needs, held-small)
 
 enum-known-r-5 : tie.Need-enum-known-r-5
 enum-known-r-5 c = search needs
@@ -78,8 +75,7 @@ held-at-requires-7 : tie.Need-held-at-requires-7
 held-at-requires-7 c κs = search needs
 
 square-requires : tie.Need-square-requires
-square-requires c κs =
-    held-small (c .before .before .before .before .args .low .now) (c .before .before .before .before .args .high .now) _ _ (c .before .before .before .before .pre .1) (c .held-at7 .ensures)
+square-requires c κs = search (needs, held-small)
 
 enum-told-4 : tie.Need-enum-told-4
 enum-told-4 c = search needs
@@ -106,36 +102,28 @@ returns-4 : tie.Need-returns-4
 returns-4 c = search (needs, z-arm)
 
 returns-5 : tie.Need-returns-5
-returns-5 c =
-    sum-arm (c .before .before .before .before .before .before .args .low .now) (c .before .before .before .before .before .before .args .high .now) _ _ _ _ _ _ _ (c .before .before .before .before .r2 .given .1) (c .before .before .held-at .ensures) (c .before .held-at2 .ensures) (c .sum .ensures)
+returns-5 c = search (needs, sum-arm)
 
 returns-6 : tie.Need-returns-6
-returns-6 c =
-    difference-arm (c .before .before .before .before .before .before .args .low .now) (c .before .before .before .before .before .before .args .high .now) _ _ _ _ _ _ _ (c .before .before .before .before .r3 .given .1) (c .before .before .held-at3 .ensures) (c .before .held-at4 .ensures) (c .difference .ensures)
+returns-6 c = search (needs, difference-arm)
 
 returns-7 : tie.Need-returns-7
-returns-7 c =
-    product-arm (c .before .before .before .before .before .before .args .low .now) (c .before .before .before .before .before .before .args .high .now) _ _ _ _ _ _ _ (c .before .before .before .before .r4 .given .1) (c .before .before .held-at5 .ensures) (c .before .held-at6 .ensures) (c .product .ensures)
+returns-7 c = search (needs, product-arm)
 
 returns-8 : tie.Need-returns-8
-returns-8 c =
-    square-arm (c .before .before .before .before .before .args .low .now) (c .before .before .before .before .before .args .high .now) _ _ _ _ _ (c .before .before .before .r5 .given .1) (c .before .held-at7 .ensures) (c .square .ensures)
+returns-8 c = search (needs, square-arm)
 
 returns-9 : tie.Need-returns-9
-returns-9 c =
-    no-face-arm (c .before .before .args .low .now) (c .before .before .args .high .now) _ _ _ (c .enum-told4 .given .1)
+returns-9 c = search (needs, no-face-arm)
 
 returns-10 : tie.Need-returns-10
-returns-10 c =
-    no-both-arm (c .before .before .args .low .now) (c .before .before .args .high .now) _ _ _ _ (c .enum-told5 .given .1)
+returns-10 c = search (needs, no-both-arm)
 
 returns-11 : tie.Need-returns-11
-returns-11 c =
-    no-either-arm (c .before .before .args .low .now) (c .before .before .args .high .now) _ _ _ _ (c .enum-told6 .given .1)
+returns-11 c = search (needs, no-either-arm)
 
 returns-12 : tie.Need-returns-12
-returns-12 c =
-    no-complement-arm (c .before .before .args .low .now) (c .before .before .args .high .now) _ _ _ (c .enum-told7 .given .1)
+returns-12 c = search (needs, no-complement-arm)
 
 pub bounds-spec : {M : Type 1} → statement M
 bounds-spec =

@@ -71,52 +71,40 @@ complement-requires : tie.Need-complement-requires
 complement-requires c κs = search needs
 
 returns : tie.Need-returns
-returns c =
-    no-constant-arm (c .before .before .before .before .args .low .now) (c .before .before .before .before .args .high .now) (c .before .before .before .before .args .classes .now) (c .before .before .before .before .args .faces .now) _ _ _ (c .enum-told .given .1)
+returns c = search (needs, no-constant-arm)
 
 returns-2 : tie.Need-returns-2
-returns-2 c =
-    no-x-arm (c .before .before .before .before .args .low .now) (c .before .before .before .before .args .high .now) (c .before .before .before .before .args .classes .now) (c .before .before .before .before .args .faces .now) _ _ (c .enum-told2 .given .1)
+returns-2 c = search (needs, no-x-arm)
 
 returns-3 : tie.Need-returns-3
-returns-3 c =
-    no-y-arm (c .before .before .before .before .args .low .now) (c .before .before .before .before .args .high .now) (c .before .before .before .before .args .classes .now) (c .before .before .before .before .args .faces .now) _ _ (c .enum-told3 .given .1)
+returns-3 c = search (needs, no-y-arm)
 
 returns-4 : tie.Need-returns-4
-returns-4 c =
-    no-z-arm (c .before .before .before .before .args .low .now) (c .before .before .before .before .args .high .now) (c .before .before .before .before .args .classes .now) (c .before .before .before .before .args .faces .now) _ _ (c .enum-told4 .given .1)
+returns-4 c = search (needs, no-z-arm)
 
 returns-5 : tie.Need-returns-5
-returns-5 c =
-    no-sum-arm (c .before .before .before .before .args .low .now) (c .before .before .before .before .args .high .now) (c .before .before .before .before .args .classes .now) (c .before .before .before .before .args .faces .now) _ _ _ _ (c .enum-told5 .given .1)
+returns-5 c = search (needs, no-sum-arm)
 
 returns-6 : tie.Need-returns-6
-returns-6 c =
-    no-difference-arm (c .before .before .before .before .args .low .now) (c .before .before .before .before .args .high .now) (c .before .before .before .before .args .classes .now) (c .before .before .before .before .args .faces .now) _ _ _ _ (c .enum-told6 .given .1)
+returns-6 c = search (needs, no-difference-arm)
 
 returns-7 : tie.Need-returns-7
-returns-7 c =
-    no-product-arm (c .before .before .before .before .args .low .now) (c .before .before .before .before .args .high .now) (c .before .before .before .before .args .classes .now) (c .before .before .before .before .args .faces .now) _ _ _ _ (c .enum-told7 .given .1)
+returns-7 c = search (needs, no-product-arm)
 
 returns-8 : tie.Need-returns-8
-returns-8 c =
-    no-square-arm (c .before .before .before .before .args .low .now) (c .before .before .before .before .args .high .now) (c .before .before .before .before .args .classes .now) (c .before .before .before .before .args .faces .now) _ _ _ (c .enum-told8 .given .1)
+returns-8 c = search (needs, no-square-arm)
 
 returns-9 : tie.Need-returns-9
-returns-9 c =
-    face-arm (c .before .before .before .before .before .before .before .args .low .now) (c .before .before .before .before .before .before .before .args .high .now) (c .before .before .before .before .before .before .before .args .classes .now) (c .before .before .before .before .before .before .before .args .faces .now) _ _ _ _ _ (c .before .before .before .r .given .1) (c .before .held-at .ensures) (c .face-state .ensures)
+returns-9 c = search (needs, face-arm)
 
 returns-10 : tie.Need-returns-10
-returns-10 c =
-    both-arm (c .before .before .before .before .before .before .before .before .args .low .now) (c .before .before .before .before .before .before .before .before .args .high .now) (c .before .before .before .before .before .before .before .before .args .classes .now) (c .before .before .before .before .before .before .before .before .args .faces .now) _ _ _ _ _ _ _ (c .before .before .before .before .r2 .given .1) (c .before .before .state-at .ensures) (c .before .state-at2 .ensures) (c .both .ensures)
+returns-10 c = search (needs, both-arm)
 
 returns-11 : tie.Need-returns-11
-returns-11 c =
-    either-arm (c .before .before .before .before .before .before .before .before .args .low .now) (c .before .before .before .before .before .before .before .before .args .high .now) (c .before .before .before .before .before .before .before .before .args .classes .now) (c .before .before .before .before .before .before .before .before .args .faces .now) _ _ _ _ _ _ _ (c .before .before .before .before .r3 .given .1) (c .before .before .state-at3 .ensures) (c .before .state-at4 .ensures) (c .either .ensures)
+returns-11 c = search (needs, either-arm)
 
 returns-12 : tie.Need-returns-12
-returns-12 c =
-    complement-arm (c .before .before .before .before .before .before .before .args .low .now) (c .before .before .before .before .before .before .before .args .high .now) (c .before .before .before .before .before .before .before .args .classes .now) (c .before .before .before .before .before .before .before .args .faces .now) _ _ _ _ _ (c .before .before .before .r4 .given .1) (c .before .state-at5 .ensures) (c .complement .ensures)
+returns-12 c = search (needs, complement-arm)
 
 pub state-spec : {M : Type 1} → statement M
 state-spec =

@@ -23,7 +23,6 @@ use Rattle.sheet.specs.Operands.{firstOf, secondOf}
 use Rattle.cube.specs.declared.Cube.{Cube}
 use Rattle.cube.specs.Limits.{Near}
 use Rattle.colour.specs.declared.State.{State}
-use Rattle.colour.specs.declared.State.the-variants.{Mixed}
 use Rattle.colour.specs.Bounds.{across, none, boundsOf}
 use Rattle.colour.specs.States.{faceState, bothOf, eitherOf, complementOf, stateOf}
 use Rattle.colour.specs.Held.{stateBy}
@@ -36,9 +35,17 @@ within i s = sym (bounded-within i (ends-within i s))
 pub zero-small : SmallEnds none
 zero-small = record { low = omega arith; high = omega arith }
 
+-- what a logical record returns
+pub no-bounds : Within none ≡ boundedOf none
+no-bounds = within none zero-small
+
 across-small : (low : ℤ) (side : ℕ) → natAbs low + side ≤ 2 ^ 21 → SmallEnds (across low side)
 unfolding across
 across-small low side h = record { low = omega arith; high = omega (arith, abs-+ low (pos side)) }
+
+-- what a coordinate returns
+pub coordinate : (low : ℤ) (side : ℕ) (v : Interval) → natAbs low + side ≤ 2 ^ 21 → mag low < 2 ^ 31 → v ≡ across (toZ w32 (ofZ w32 low)) side → Within v ≡ boundedOf (across low side)
+coordinate low side v h f g = rw (g, toZ-ofZ {w = w32} {z = low} (record { sfits = f })) (within (across low side) (across-small low side h))
 
 -- ---- the bounds of a record
 module _ (low high : List ℤ) where
@@ -56,18 +63,6 @@ module _ (low high : List ℤ) where
         let h : natAbs c ≤ 2 ^ 60 = omega (arith, f .sfits, abs-most c) in
         rw (e, wide-back c f) (within (only c) (record { low = h; high = h }))
 
-    pub x-arm : (v : Interval) → r ≡ X → Near 0 q → mag (q .x) < 2 ^ 31 → v ≡ across (toZ w32 (ofZ w32 (q .x))) (q .side) → Within v ≡ asked
-    unfolding boundsOf
-    x-arm v e h f g = rw (e, g, toZ-ofZ {w = w32} {z = q .x} (record { sfits = f })) (within (across (q .x) (q .side)) (across-small (q .x) (q .side) (h .x)))
-
-    pub y-arm : (v : Interval) → r ≡ Y → Near 0 q → mag (q .y) < 2 ^ 31 → v ≡ across (toZ w32 (ofZ w32 (q .y))) (q .side) → Within v ≡ asked
-    unfolding boundsOf
-    y-arm v e h f g = rw (e, g, toZ-ofZ {w = w32} {z = q .y} (record { sfits = f })) (within (across (q .y) (q .side)) (across-small (q .y) (q .side) (h .y)))
-
-    pub z-arm : (v : Interval) → r ≡ Z → Near 0 q → mag (q .z) < 2 ^ 31 → v ≡ across (toZ w32 (ofZ w32 (q .z))) (q .side) → Within v ≡ asked
-    unfolding boundsOf
-    z-arm v e h f g = rw (e, g, toZ-ofZ {w = w32} {z = q .z} (record { sfits = f })) (within (across (q .z) (q .side)) (across-small (q .z) (q .side) (h .z)))
-
     pub sum-arm : (a c : ℕ) (i j : Interval) (b : Bounded) → r ≡ Sum a c → i ≡ heldAt low high a → j ≡ heldAt low high c → b ≡ boundedOf (sum i j) → b ≡ asked
     unfolding boundsOf
     sum-arm a c i j b e f g h = rw (e, ← f, ← g) h
@@ -84,23 +79,6 @@ module _ (low high : List ℤ) where
     unfolding boundsOf
     square-arm a i b e f h = rw (e, ← f) h
 
-    -- a logical record has no bounds
-    pub no-face-arm : (a : ℕ) → r ≡ Face a → Within none ≡ asked
-    unfolding boundsOf
-    no-face-arm a e = rw e (within none zero-small)
-
-    pub no-both-arm : (a c : ℕ) → r ≡ Both a c → Within none ≡ asked
-    unfolding boundsOf
-    no-both-arm a c e = rw e (within none zero-small)
-
-    pub no-either-arm : (a c : ℕ) → r ≡ Either a c → Within none ≡ asked
-    unfolding boundsOf
-    no-either-arm a c e = rw e (within none zero-small)
-
-    pub no-complement-arm : (a : ℕ) → r ≡ Complement a → Within none ≡ asked
-    unfolding boundsOf
-    no-complement-arm a e = rw e (within none zero-small)
-
 -- ---- the state of a record
 module _ (low high : List ℤ) (classes faces : List ℕ) (n : ℕ) (r : Record) where
   abbrev stated : ℕ → State
@@ -108,39 +86,6 @@ module _ (low high : List ℤ) (classes faces : List ℕ) (n : ℕ) (r : Record)
 
   abbrev due : State
   due = stateOf n (heldAt low high (firstOf r)) (stated (firstOf r)) (stated (secondOf r)) r
-
-  -- an arithmetic record says nothing
-  pub no-constant-arm : (c : ℤ) → r ≡ Constant c → Mixed ≡ due
-  unfolding stateOf
-  no-constant-arm c e = rw e
-
-  pub no-x-arm : r ≡ X → Mixed ≡ due
-  unfolding stateOf
-  no-x-arm e = rw e
-
-  pub no-y-arm : r ≡ Y → Mixed ≡ due
-  unfolding stateOf
-  no-y-arm e = rw e
-
-  pub no-z-arm : r ≡ Z → Mixed ≡ due
-  unfolding stateOf
-  no-z-arm e = rw e
-
-  pub no-sum-arm : (a c : ℕ) → r ≡ Sum a c → Mixed ≡ due
-  unfolding stateOf
-  no-sum-arm a c e = rw e
-
-  pub no-difference-arm : (a c : ℕ) → r ≡ Difference a c → Mixed ≡ due
-  unfolding stateOf
-  no-difference-arm a c e = rw e
-
-  pub no-product-arm : (a c : ℕ) → r ≡ Product a c → Mixed ≡ due
-  unfolding stateOf
-  no-product-arm a c e = rw e
-
-  pub no-square-arm : (a : ℕ) → r ≡ Square a → Mixed ≡ due
-  unfolding stateOf
-  no-square-arm a e = rw e
 
   pub face-arm : (a : ℕ) (i : Interval) (k : State) → r ≡ Face a → i ≡ heldAt low high a → k ≡ faceState i n → k ≡ due
   unfolding stateOf

@@ -1,6 +1,7 @@
 -- `colour::entries::bounds` meets its contract: each kind has its own rule.
 use Rattle.integers.proofs.Machine.{wide-fits}
-use Rattle.colour.proofs.Arms.{held-small, constant-arm, x-arm, y-arm, z-arm, sum-arm, difference-arm, product-arm, square-arm, no-face-arm, no-both-arm, no-either-arm, no-complement-arm}
+use Rattle.colour.proofs.Arms.{held-small, coordinate, constant-arm, sum-arm, difference-arm, product-arm, square-arm, no-bounds}
+use Rattle.colour.specs.Bounds.{boundsOf}
 use borrow.Author.Needs.{needs}
 use Rattle.colour.proofs.entries.bounds.Statement.{statement}
 use Rattle.colour.proofs.entries.bounds.Tie as tie
@@ -93,13 +94,16 @@ returns : tie.Need-returns
 returns c = search (needs, constant-arm)
 
 returns-2 : tie.Need-returns-2
-returns-2 c = search (needs, x-arm)
+unfolding boundsOf
+returns-2 c = rw (c .before .before .enum-told .given .1) (search (needs, coordinate))
 
 returns-3 : tie.Need-returns-3
-returns-3 c = search (needs, y-arm)
+unfolding boundsOf
+returns-3 c = rw (c .before .before .enum-told2 .given .1) (search (needs, coordinate))
 
 returns-4 : tie.Need-returns-4
-returns-4 c = search (needs, z-arm)
+unfolding boundsOf
+returns-4 c = rw (c .before .before .enum-told3 .given .1) (search (needs, coordinate))
 
 returns-5 : tie.Need-returns-5
 returns-5 c = search (needs, sum-arm)
@@ -114,16 +118,20 @@ returns-8 : tie.Need-returns-8
 returns-8 c = search (needs, square-arm)
 
 returns-9 : tie.Need-returns-9
-returns-9 c = search (needs, no-face-arm)
+unfolding boundsOf
+returns-9 c = rw (c .enum-told4 .given .1) no-bounds
 
 returns-10 : tie.Need-returns-10
-returns-10 c = search (needs, no-both-arm)
+unfolding boundsOf
+returns-10 c = rw (c .enum-told5 .given .1) no-bounds
 
 returns-11 : tie.Need-returns-11
-returns-11 c = search (needs, no-either-arm)
+unfolding boundsOf
+returns-11 c = rw (c .enum-told6 .given .1) no-bounds
 
 returns-12 : tie.Need-returns-12
-returns-12 c = search (needs, no-complement-arm)
+unfolding boundsOf
+returns-12 c = rw (c .enum-told7 .given .1) no-bounds
 
 pub bounds-spec : {M : Type 1} → statement M
 bounds-spec =

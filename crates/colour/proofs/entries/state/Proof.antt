@@ -1,5 +1,6 @@
 -- `colour::entries::state` meets its contract: each kind has its own rule.
-use Rattle.colour.proofs.Arms.{no-constant-arm, no-x-arm, no-y-arm, no-z-arm, no-sum-arm, no-difference-arm, no-product-arm, no-square-arm, face-arm, both-arm, either-arm, complement-arm}
+use Rattle.colour.proofs.Arms.{face-arm, both-arm, either-arm, complement-arm}
+use Rattle.colour.specs.States.{stateOf}
 use borrow.Author.Needs.{needs}
 use Rattle.colour.proofs.entries.state.Statement.{statement}
 use Rattle.colour.proofs.entries.state.Tie as tie
@@ -71,28 +72,36 @@ complement-requires : tie.Need-complement-requires
 complement-requires c κs = search needs
 
 returns : tie.Need-returns
-returns c = search (needs, no-constant-arm)
+unfolding stateOf
+returns c = rw (c .enum-told .given .1)
 
 returns-2 : tie.Need-returns-2
-returns-2 c = search (needs, no-x-arm)
+unfolding stateOf
+returns-2 c = rw (c .enum-told2 .given .1)
 
 returns-3 : tie.Need-returns-3
-returns-3 c = search (needs, no-y-arm)
+unfolding stateOf
+returns-3 c = rw (c .enum-told3 .given .1)
 
 returns-4 : tie.Need-returns-4
-returns-4 c = search (needs, no-z-arm)
+unfolding stateOf
+returns-4 c = rw (c .enum-told4 .given .1)
 
 returns-5 : tie.Need-returns-5
-returns-5 c = search (needs, no-sum-arm)
+unfolding stateOf
+returns-5 c = rw (c .enum-told5 .given .1)
 
 returns-6 : tie.Need-returns-6
-returns-6 c = search (needs, no-difference-arm)
+unfolding stateOf
+returns-6 c = rw (c .enum-told6 .given .1)
 
 returns-7 : tie.Need-returns-7
-returns-7 c = search (needs, no-product-arm)
+unfolding stateOf
+returns-7 c = rw (c .enum-told7 .given .1)
 
 returns-8 : tie.Need-returns-8
-returns-8 c = search (needs, no-square-arm)
+unfolding stateOf
+returns-8 c = rw (c .enum-told8 .given .1)
 
 returns-9 : tie.Need-returns-9
 returns-9 c = search (needs, face-arm)

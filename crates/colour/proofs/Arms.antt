@@ -1,4 +1,4 @@
--- What each arm of the two matches over the kinds of records returns.
+-- What each arm returns in the two matches over the kinds of records.
 use mathlib.Core.Path.{_≡_, sym}
 use mathlib.Core.List.{List}
 use Prim.Native.Nat.{ℕ, _+_, _≤_, _<_, _^_}
@@ -18,24 +18,23 @@ use Rattle.interval.specs.Rules.{only, sum, difference, product, square}
 use Rattle.interval.specs.Limit.{SmallEnds, boundedOf}
 use Rattle.interval.proofs.Facts.{ends-within, bounded-within}
 use Rattle.sheet.specs.declared.Record.{Record}
-use Rattle.sheet.specs.declared.Record.the-variants.{Constant, X, Y, Z, Sum, Difference, Product, Square, Face, Both, Either, Complement}
+use Rattle.sheet.specs.declared.Record.the-variants.{Constant, Sum, Difference, Product, Square, Face, Both, Either, Complement}
 use Rattle.sheet.specs.Operands.{firstOf, secondOf}
 use Rattle.cube.specs.declared.Cube.{Cube}
-use Rattle.cube.specs.Limits.{Near}
 use Rattle.colour.specs.declared.State.{State}
 use Rattle.colour.specs.Bounds.{across, none, boundsOf}
 use Rattle.colour.specs.States.{faceState, bothOf, eitherOf, complementOf, stateOf}
 use Rattle.colour.specs.Held.{stateBy}
 use Rattle.colour.specs.Held.{Held, heldAt}
 
--- an interval whose ends are within the limit passes it
+-- an interval whose ends are within the limit is returned as it is
 within : (i : Interval) → SmallEnds i → Within i ≡ boundedOf i
 within i s = sym (bounded-within i (ends-within i s))
 
 pub zero-small : SmallEnds none
 zero-small = record { low = omega arith; high = omega arith }
 
--- what a logical record returns
+-- a logical record
 pub no-bounds : Within none ≡ boundedOf none
 no-bounds = within none zero-small
 
@@ -43,7 +42,7 @@ across-small : (low : ℤ) (side : ℕ) → natAbs low + side ≤ 2 ^ 21 → Sma
 unfolding across
 across-small low side h = record { low = omega arith; high = omega (arith, abs-+ low (pos side)) }
 
--- what a coordinate returns
+-- a coordinate
 pub coordinate : (low : ℤ) (side : ℕ) (v : Interval) → natAbs low + side ≤ 2 ^ 21 → mag low < 2 ^ 31 → v ≡ across (toZ w32 (ofZ w32 low)) side → Within v ≡ boundedOf (across low side)
 coordinate low side v h f g = rw (g, toZ-ofZ {w = w32} {z = low} (record { sfits = f })) (within (across low side) (across-small low side h))
 

@@ -57,7 +57,7 @@ module _ (q : Cube) (point : q .side ≡ 0) where
   pub exact : (rs : List Record) (i : ℕ) → One (getD (entries q rs) i blank .bounds)
   exact rs i = related Exact blank blank (pos 0, refl) (entryOf q) (entryOf q) step-one rs .each i
 
-  -- so are the bounds that a face is given
+  -- and so are the bounds by which a face is coloured
   pub exact-face : (rs : List Record) (i : ℕ) → One (faceBounds q (getD (entries q rs) i blank))
   unfolding faceBounds
   exact-face = exact

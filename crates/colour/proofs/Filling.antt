@@ -1,4 +1,4 @@
--- The bounds and states of all records over a cube, as a loop fills them: so many records are done, and three arrays hold what is known of each.
+-- The loop that works out the bounds and states of all records over a cube: the first n records are done, and four arrays hold what is known of them.
 use mathlib.Core.Path.{_≡_, refl, sym, ap, _∙_}
 use mathlib.Core.Bool.{false}
 use mathlib.Core.List.{List, [], _∷_, _++_, append-assoc}
@@ -41,11 +41,11 @@ use Rattle.colour.specs.Entries.{Entry, blank, faceBounds, entryOf, entr
 use Rattle.colour.proofs.Arms.{zero-small}
 use Rattle.colour.proofs.FirstPast.{Keep, first-past, none-past, keep-more}
 
--- ---- the loop
 -- the entries of the first n records
 abbrev done : List ℕ → Cube → ℕ → List Entry
 done s q n = entries q (take n (recordsOf s))
 
+-- the loop's invariant
 pub record Filling (s offsets : List ℕ) (count : ℕ) (q : Cube) (low high : List ℤ) (n : ℕ) (classes faces : List ℕ) : Type 0 where
   pub listed : Offsets offsets s
   pub all : count ≡ length (recordsOf s)
@@ -92,14 +92,15 @@ module _ (s offsets : List ℕ) (count : ℕ) (q : Cube) (low high : List ℤ) (
   abbrev rs : List Record
   rs = recordsOf s
 
-  -- what is read of an operand
+  -- an operand's entry
   abbrev known : ℕ → Entry
   known a = getD (done s q n) a blank
 
+  -- the arrays hold its bounds
   operand : (a : ℕ) → heldAt low high a ≡ known a .bounds
   operand a = λ k. from (w .lows a k) (w .highs a k)
 
-  -- what is read for a face is what it is given
+  -- and those by which a face is coloured
   given : (a : ℕ) → heldAt low high a ≡ faceBounds q (known a)
   unfolding faceBounds
   given a = operand a
@@ -135,7 +136,7 @@ module _ (s offsets : List ℕ) (count : ℕ) (q : Cube) (low high : List ℤ) (
       let p : pastFrom 0 (entries q rs) ≡ [] = rw t at (none-past 0 (done s q n) (w .keep)) in
       rw p (ap Known (e ∙ coloured which ∙ ap (λ (l : List Record). getD (entries q l) which blank .state) t))
 
-  -- one record more: r stands where the list of offsets says
+  -- one record more: r stands at its offset
   module _ (left : n < count) (r : Record) (row : rowAt s (getD offsets n 0) ≡ IsRecord r) where
     more : n < length rs
     more = omega (arith, w .all)

@@ -1,4 +1,4 @@
--- Laws of the one rule by which both and either join two states.
+-- Laws of the rule by which both and either join two states.
 use mathlib.Core.Path.{_≡_, refl, sym, _∙_}
 use mathlib.Core.Bool.{Bool, true, false, or-true, true≢false}
 use Rattle.integers.proofs.Order.{by-test}
@@ -21,7 +21,7 @@ is-out (Single f) e = absurd (true≢false (sym e))
 is-out (Comp f) e = absurd (true≢false (sym e))
 is-out Mixed e = absurd (true≢false (sym e))
 
--- ---- two states that neither decide nor leave it to the other
+-- ---- two states where neither decides and neither leaves it to the other
 otherwise-mixed : (decided s t : State) → otherwiseOf decided s t ≡ Mixed
 unfolding otherwiseOf
 otherwise-mixed decided s t = refl
@@ -63,7 +63,7 @@ module _ (decides : State → Bool) (decided : State) (leaves : State → Bool) 
           unfolding joinedBy
           neither nd = rw (sym ea ∙ na, sym eb ∙ nb, sym ec ∙ nc, sym ed ∙ nd) (sym (otherwise-mixed decided s t))
 
-  -- ---- the order of operands, where one state alone leaves it to the other
+  -- ---- the order of the operands does not matter, where no two different states leave it to the other
   pub joined-commutes : (leaves s ≡ true → leaves t ≡ true → s ≡ t) → joined ≡ joinedBy decides decided leaves t s
   unfolding joinedBy
   joined-commutes one =

@@ -50,12 +50,12 @@ pub out-row : faceState (from (pos 1) (pos 2)) 5 ≡ Out
 unfolding faceState
 out-row = refl
 
--- the faces that are left in the cube count, not those of the whole sheet: a face that holds all over it leaves the other by itself
+-- The faces left in the cube count, not those of the whole sheet: a face that holds all over the cube leaves the other alone.
 pub left-row : bothOf In (Single 6) ≡ Single 6
 unfolding joinedBy otherwiseOf
 left-row = refl
 
--- two faces that are both left are Mixed: neither of them alone says what both do
+-- two faces that are both left give Mixed: neither alone says what both do
 pub two-left-row : bothOf (Single 5) (Single 6) ≡ Mixed
 unfolding joinedBy otherwiseOf
 two-left-row = refl
@@ -67,7 +67,7 @@ complement-in-row = refl
 pub complement-single-row : complementOf (Single 5) ≡ Comp 5
 complement-single-row = refl
 
--- a face that holds nowhere in the cube leaves the other by itself
+-- a face that holds nowhere in the cube leaves the other alone
 pub either-left-row : eitherOf Out (Single 6) ≡ Single 6
 unfolding joinedBy otherwiseOf
 either-left-row = refl

@@ -1,4 +1,4 @@
--- Over a cube that lies in another, each record's bounds lie in its bounds over the other. So where none passes the limit over a cube, none does over a smaller one.
+-- Over a cube inside another, each record's bounds lie in its bounds over the other. So where no record passes the limit over a cube, none does over a smaller one.
 use mathlib.Core.Path.{_≡_}
 use mathlib.Core.List.{List, []}
 use Prim.Native.Nat.{ℕ, _≤_, _^_}
@@ -49,7 +49,7 @@ module _ (q outer : Cube) (h : CubeInside q outer) where
   bounds-inside rs i = related Within blank blank (only-inside (pos 0)) (entryOf q) (entryOf outer) step-inside rs .each i
 
 -- ---- the limit
--- what lies between two numbers within the limit is within it
+-- a number between two that are within the limit is within it
 between-small : (a b c : ℤ) → a ≤ℤ b → b ≤ℤ c → natAbs a ≤ 2 ^ 60 → natAbs c ≤ 2 ^ 60 → natAbs b ≤ 2 ^ 60
 between-small a (pos b) (pos c) h k s t = omega (arith, ints, k)
 between-small a (pos b) (negsuc c) h k s t = absurd (k .le)

@@ -1,4 +1,4 @@
--- What a cube that was judged tells: the state of the record that was asked, or the first record past the limit.
+-- What judging a cube tells: the state of the record that was asked for, or the first record past the limit.
 use mathlib.Core.Path.{_≡_, ap, _∙_}
 use mathlib.Core.List.{List, [], _∷_}
 use Prim.Native.Nat.{ℕ}
@@ -12,7 +12,7 @@ use Rattle.colour.specs.declared.Judged.the-variants.{Known, Past}
 use Rattle.colour.specs.Entries.{blank, entries, judgedOf, firstPast}
 use Rattle.colour.proofs.FirstPast.{past-cases}
 
--- q, the cube that was judged, is the one that is spoken of
+-- the cube q was judged, and it is the cube `of`
 module _ (rs : List Record) (of q : Cube) (is : q ≡ of) (which : ℕ) (j : Judged) (e : j ≡ judgedOf rs q which) where
   abbrev asked : State
   asked = getD (entries of rs) which blank .state

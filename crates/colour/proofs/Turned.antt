@@ -1,4 +1,4 @@
--- Laws that tie the rules of states to one another: either is both turned over, complement twice changes nothing, and what In, Out and two other states give.
+-- How the rules of states hang together: either is both turned over, complement twice changes nothing, and what both gives of In, of Out and of two other states.
 use mathlib.Core.Path.{_≡_, refl, sym, _∙_}
 use mathlib.Core.Bool.{Bool, true, false, cond}
 use Rattle.integers.proofs.Order.{by-test}
@@ -39,7 +39,7 @@ unfolding joinedBy
 either-turned s t = simp (in-turned, out-turned, cond-turned, complement-twice, otherwise-turned)
 
 -- ---- both
--- In leaves the other as it is, and Out leaves nothing of it
+-- In leaves it to the other, and Out decides
 pub both-in : (s : State) → bothOf In s ≡ s
 unfolding joinedBy
 both-in s = by-test (isOut s) (λ e. rw e (sym (is-out s e))) (λ e. rw e)
@@ -59,7 +59,7 @@ pub both-mixed : (s t : State) → (s ≡ In → ⊥) → (s ≡ Out → ⊥) �
 both-mixed s t si so ti to =
     sym (neither isOut Out isIn s t false (sym (not-out s so)) refl false (sym (not-out t to)) refl false (sym (not-in s si)) refl false (sym (not-in t ti)) refl)
 
--- ---- the order of operands
+-- ---- the order of the operands does not matter
 pub both-commutes : (s t : State) → bothOf s t ≡ bothOf t s
 both-commutes s t = joined-commutes isOut Out isIn s t (λ a b. is-in s a ∙ sym (is-in t b))
 

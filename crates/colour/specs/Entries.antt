@@ -26,7 +26,7 @@ pub record Entry : Type 0 where
 abbrev pub blank : Entry
 blank = record { bounds = none; state = Out }
 
--- the bounds over a cube by which a face is coloured, from its operand's entry: those of its operand
+-- the bounds by which a face is coloured over a cube: those of its operand
 unfoldable pub faceBounds : Cube → Entry → Interval
 faceBounds q operand = operand .bounds
 
@@ -44,7 +44,7 @@ entryOf q before r =
 abbrev pub entries : Cube → List Record → List Entry
 entries q = along (entryOf q)
 
--- of entries whose first is that of record n: the first record whose bounds pass 2^60, where one does
+-- the first record whose bounds pass 2^60, where one does, among entries that begin with that of record n
 unfoldable pub pastFrom : ℕ → List Entry → List ℕ
 pastFrom n [] = []
 pastFrom n (e ∷ es) = cond (isWithin (e .bounds)) (pastFrom (suc n) es) (n ∷ [])

@@ -1,4 +1,4 @@
--- What is read of bounds that are held together in two lists of ends, and of states that are held as class and face. Only inner contracts cite this.
+-- Bounds as they are held together, in two lists of ends, and states as they are held, by class and face. Only inner contracts cite this.
 use Prim.Native.Nat.{ℕ}
 use mathlib.Core.Path.{_≡_}
 use mathlib.Core.Bool.{cond}
@@ -22,6 +22,6 @@ pub record Held (low high : List ℤ) : Type 0 where
   pub highs : length high ≡ 256
   pub small : (a : ℕ) → SmallEnds (heldAt low high a)
 
--- the state of a class and a face number
+-- the state that has this class and this face number
 unfoldable pub stateBy : ℕ → ℕ → State
 stateBy class face = cond (eqb class 0) Out (cond (eqb class 1) In (cond (eqb class 2) (Single face) (cond (eqb class 3) (Comp face) Mixed)))

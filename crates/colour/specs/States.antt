@@ -35,11 +35,11 @@ complementOf (Single f) = Comp f
 complementOf (Comp f) = Single f
 complementOf Mixed = Mixed
 
--- what two states give of which neither decides and neither leaves it to the other
+-- what two states give where neither decides and neither leaves it to the other: Mixed
 unfoldable pub otherwiseOf : State → State → State → State
 otherwiseOf decided s t = Mixed
 
--- both and either: `decided` if either state decides; otherwise if one leaves it to the other, the other's state; otherwise as above
+-- Both and either join two states by one rule: `decided` if either decides; otherwise if one leaves it to the other, the other's state; otherwise Mixed.
 unfoldable pub joinedBy : (State → Bool) → State → (State → Bool) → State → State → State
 joinedBy decides decided leaves s t = cond (decides s || decides t) decided (cond (leaves s) t (cond (leaves t) s (otherwiseOf decided s t)))
 
@@ -51,7 +51,7 @@ bothOf s t = joinedBy isOut Out isIn s t
 abbrev pub eitherOf : State → State → State
 eitherOf s t = joinedBy isIn In isOut s t
 
--- the state of record n, where i are the bounds that a face is given, s and t the states of its operands; one that is not logical says nothing
+-- the state of record n, where a face is coloured by the bounds i, and s and t are the states of the operands; an arithmetic record says nothing
 unfoldable pub stateOf : ℕ → Interval → State → State → Record → State
 stateOf n i s t (Constant c) = Mixed
 stateOf n i s t X = Mixed

@@ -18,7 +18,7 @@ use interval::Bounded;
 use interval::Interval;
 use sheet::Record;
 
-// What a coordinate runs through.
+// The bounds of a coordinate.
 fn across(low: i32, side: u32) -> Interval
     requires { ⌜ natAbs low + side ≤ 2 ^ 21 ⌝ }
     ensures { λ r. ⌜ r ≡ across low side ⌝ }
@@ -40,7 +40,7 @@ fn held_at<'a>(low: &'a [i64], high: &'a [i64], a: u8) -> Interval
     }
 }
 
-// The bounds of a record, from the bounds of those before it.
+// The bounds of a record, from those of the records before it.
 pub fn bounds<'a>(r: Record, q: Cube, low: &'a [i64], high: &'a [i64]) -> Bounded
     requires { ⌜ Near 0 q ⌝ ∗ ⌜ Held (now low) (now high) ⌝ }
     ensures { λ b. ⌜ b ≡ boundedOf (boundsOf q (heldAt (now (low .entry)) (now (high .entry)) (firstOf r)) (heldAt (now (low .entry)) (now (high .entry)) (secondOf r)) r) ⌝ }
@@ -64,7 +64,7 @@ pub fn bounds<'a>(r: Record, q: Cube, low: &'a [i64], high: &'a [i64]) -> Bounde
     }
 }
 
-// The state of record n, from the bounds and the states of those before it.
+// The state of record n, from the bounds and the states of the records before it.
 pub fn state<'a>(
     r: Record,
     n: u8,

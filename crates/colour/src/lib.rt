@@ -6,8 +6,8 @@ mod states;
 
 pub use judging::judge;
 
-// What the bounds over a cube tell of a logical record: that it holds nowhere in the cube, that it holds all over it, that it holds there exactly where one
-// face does, or where that face does not, or nothing. They stand in the order of their classes, 0 to 4.
+// What is known of a logical record over a cube: it holds nowhere in the cube; it holds all over it; it holds exactly where one face does; it holds exactly where
+// that face does not; or nothing is known. The variants stand in the order of their classes, 0 to 4.
 pub enum State {
     Out,
     In,
@@ -16,7 +16,7 @@ pub enum State {
     Mixed,
 }
 
-// The bounds of the first `count` records over a cube, held together; each place after them holds zeros.
+// The bounds of the first `count` records over a cube, held together. The places after them hold zeros.
 pub struct Bounds {
     pub low: [i64; 256],
     pub high: [i64; 256],

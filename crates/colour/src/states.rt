@@ -7,7 +7,7 @@ ghost use Rattle.colour.specs.Held.{stateBy};
 use crate::State;
 use interval::Interval;
 
-// The state of face f, whose operand has these bounds.
+// The state of face f, coloured by these bounds.
 pub fn face_state(bounds: Interval, f: u8) -> State
     ensures { λ r. ⌜ r ≡ faceState bounds f ⌝ }
 {
@@ -20,7 +20,7 @@ pub fn face_state(bounds: Interval, f: u8) -> State
     State::Single(f)
 }
 
-// The state of a record, where its class and its face stand in two lists.
+// The state of record a, whose class and face stand in two lists.
 pub fn state_at(classes: &[u8], faces: &[u8], a: u8) -> State
     requires { ⌜ length (now classes) ≡ 256 ⌝ ∗ ⌜ length (now faces) ≡ 256 ⌝ }
     ensures { λ r. ⌜ r ≡ stateBy (getD (now (classes .entry)) a 0) (getD (now (faces .entry)) a 0) ⌝ }

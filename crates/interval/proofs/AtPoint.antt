@@ -1,4 +1,4 @@
--- At a point the rules are exact: of intervals that hold one number alone they give the sum, the difference, the product and the square alone.
+-- At a point the rules are exact: from intervals of one number each they give the interval of just the sum, the difference, the product or the square.
 use mathlib.Core.Path.{_≡_, refl, ap₂}
 use lib.Dec.{leb·zero}
 use lib.IntN.{ℤ, pos, negsuc, _+ℤ_, _-ℤ_, _*ℤ_}

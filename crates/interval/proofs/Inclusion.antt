@@ -1,4 +1,4 @@
--- The rules hold their numbers: the sum, the difference, the product and the square of numbers of the operands lie in the interval of the rule.
+-- No result is left out: the sum, difference, product and square of numbers of the operands lie in the interval that the rule gives.
 -- A number is a numerator over a scale, as in `Between`.
 use Prim.Native.Nat.{ℕ, _*_}
 use lib.IntN.{ℤ, pos, _+ℤ_, _-ℤ_, _*ℤ_, *ℤ-comm, zero-*ℤ}
@@ -39,7 +39,7 @@ between-multiples a b x k h j =
     (λ s. (≤-trans _ _ _ (lesser-left (a *ℤ k) (b *ℤ k)) (*-keeps k a x s h), ≤-trans _ _ _ (*-keeps k x b s j) (greater-right (a *ℤ k) (b *ℤ k))))
     (λ s. (≤-trans _ _ _ (lesser-right (a *ℤ k) (b *ℤ k)) (*-turns k x b s j), ≤-trans _ _ _ (*-turns k a x s h) (greater-left (a *ℤ k) (b *ℤ k))))
 
--- what lies between two numbers of the span of four lies in it
+-- a number between two of four numbers lies in their span
 spanned-between : (p q r s u v z : ℤ) → Spanned p q r s u → Spanned p q r s v → (lesserOf u v ≤ℤ z) × (z ≤ℤ greaterOf u v) → Spanned p q r s z
 spanned-between p q r s u v z hu hv h = (
   ≤-trans _ _ _ (lesser-either (λ w. leastOf p q r s ≤ℤ w) u v (hu .0) (hv .0)) (h .0),
@@ -71,7 +71,7 @@ product-holds {i} {j} {n} {m} {x} {y} hx hy =
     }
 
 -- ---- the square
--- what holds of the interval that each of the three cases gives holds of the square
+-- what holds of the interval in each of the three cases holds of the square
 pub by-case : (P : Interval → Type 0) (i : Interval) → (pos 0 ≤ℤ i .low → P (from (i .low *ℤ i .low) (i .high *ℤ i .high)))
     → (i .high ≤ℤ pos 0 → P (from (i .high *ℤ i .high) (i .low *ℤ i .low)))
     → (i .low ≤ℤ pos 0 → pos 0 ≤ℤ i .high → P (from (pos 0) (greaterOf (i .low *ℤ i .low) (i .high *ℤ i .high)))) → P (square i)

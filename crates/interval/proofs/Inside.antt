@@ -1,4 +1,4 @@
--- The rules keep what lies inside: where each operand lies inside another, so does what each of the four rules gives.
+-- Smaller operands give a smaller result: where each operand lies inside another, so does the result of each of the four rules.
 use lib.IntN.{ℤ, _*ℤ_}
 use lib.Signed.{_≤ℤ_, ≤ℤ-refl}
 use Rattle.integers.proofs.Ring.{times-one}
@@ -13,7 +13,7 @@ use Rattle.interval.proofs.Inclusion.{product-holds, by-case, square-ho
 whole : {i : Interval} {a : ℤ} → i .low ≤ℤ a → a ≤ℤ i .high → Between i 1 a
 whole {i} h k = record { low = rw (times-one (i .low)) h; high = rw (times-one (i .high)) k }
 
--- an interval whose ends are in order and in another lies inside it
+-- an interval lies inside another where its ends are in order and lie in the other
 inside : {i j : Interval} → Between j 1 (i .low) → i .low ≤ℤ i .high → Between j 1 (i .high) → Inside i j
 inside {i} {j} h o k = record { low = rw (times-one (j .low)) at (h .low); ordered = o; high = rw (times-one (j .high)) at (k .high) }
 
@@ -36,7 +36,7 @@ module _ {i j k l : Interval} (h : Inside i j) (g : Inside k l) where
   unfolding difference
   difference-inside = record { low = minus-mono _ _ _ _ (h .low) (g .high); ordered = minus-mono _ _ _ _ (h .ordered) (g .ordered); high = minus-mono _ _ _ _ (h .high) (g .low) }
 
-  -- each of the four products of ends is one of numbers of the larger intervals
+  -- each of the four products of ends is a product of numbers of the larger intervals
   pub product-inside : Inside (product i k) (product j l)
   unfolding product span
   product-inside =

@@ -1,4 +1,4 @@
--- The needs of the operations on intervals, each as it stands: the machine reads a number back from its bits.
+-- Facts for the proofs of the operations on intervals, in the form in which the proofs need them: the machine reads a number back from its bits.
 use mathlib.Core.Path.{_≡_, ap, ap₂, _∙_}
 use mathlib.Core.Bool.{true, false}
 use Prim.Native.Nat.{_≤_, _<_, _^_}
@@ -28,12 +28,12 @@ module _ (r : Bounded) (i j : Interval) (si : SmallEnds i) (sj : SmallEnds j) wh
   unfolding difference
   difference-told e = e ∙ ap boundedOf (ap₂ from (difference-back (i .low) (j .high) (si .low) (sj .high)) (difference-back (i .high) (j .low) (si .high) (sj .low)))
 
--- ---- the product and the square: what a call of `times` answered, read back
+-- ---- the product and the square: what a call of `times` returned, read back
 pub times-told : (r a b : ℤ) → natAbs a ≤ 2 ^ 60 → natAbs b ≤ 2 ^ 60 → r ≡ clampOf (toZ w64 (ofZ w64 a) *ℤ toZ w64 (ofZ w64 b)) → mag r < 2 ^ 63
     → toZ w64 (ofZ w64 r) ≡ clampOf (a *ℤ b)
 times-told r a b ha hb e h = again w64 r (clampOf (a *ℤ b)) (rw (limit-back a ha, limit-back b hb) at e) h
 
--- the limit is put as well to the span of four numbers clamped
+-- the span of four numbers may be held to the limit by the numbers clamped
 span-clamped : (p q r s : ℤ) → boundedOf (span (clampOf p) (clampOf q) (clampOf r) (clampOf s)) ≡ boundedOf (span p q r s)
 unfolding span
 span-clamped p q r s =

@@ -1,4 +1,4 @@
--- The needs of `magnitude`, `is_small_product` and `times`, each as it stands: the machine reads a number back from its bits.
+-- Facts for the proofs of `magnitude`, `is_small_product` and `times`, in the form in which the proofs need them: the machine reads a number back from its bits.
 use mathlib.Core.Path.{_≡_, refl, sym, _∙_}
 use mathlib.Core.Bool.{Bool, true, false, Bool·beq}
 use Prim.Native.Nat.{ℕ, zero, suc, _+_, _*_, _/_, _≤_, _<_, _^_}
@@ -61,7 +61,7 @@ side (pos a) (negsuc b) h = rw (plus a, minus (a * suc b) (omega arith))
 side (negsuc a) (pos b) h = rw (plus b, minus (suc a * b) (omega arith))
 side (negsuc a) (negsuc b) h = refl
 
--- m and n are the magnitudes that the two calls answered, and s is what `is_small_product` answered of them
+-- m and n are the magnitudes that the two calls returned, and s is what `is_small_product` returned for them
 module _ (a b : ℤ) (m n : ℕ) (s : Bool) (ha : natAbs a ≤ 2 ^ 60) (hb : natAbs b ≤ 2 ^ 60)
     (em : m ≡ natAbs (toZ w64 (ofZ w64 a))) (en : n ≡ natAbs (toZ w64 (ofZ w64 b))) (e : s ≡ leb (m * n) (2 ^ 60)) where
   small-is : isSmall (a *ℤ b) ≡ s

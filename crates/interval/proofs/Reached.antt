@@ -1,4 +1,4 @@
--- The rules are as narrow as can be: each end of a sum, difference, product or square is that of numbers of the operands. With `Inclusion` this leaves no other interval.
+-- The rules are as narrow as possible: each end of a sum, difference, product or square is that of numbers of the operands. With `Inclusion` this leaves no other interval.
 use mathlib.Core.Path.{_≡_, refl}
 use lib.IntN.{ℤ, pos, _+ℤ_, _-ℤ_, _*ℤ_}
 use lib.Signed.{_≤ℤ_, ≤ℤ-refl}
@@ -7,7 +7,7 @@ use Rattle.interval.specs.Rules.{span, sum, difference, product, square}
 use Rattle.interval.specs.declared.Interval.{Interval}
 use Rattle.interval.proofs.Inclusion.{by-case}
 
--- z is what `op` makes of a number of i and one of j
+-- z is `op` of a number of i and a number of j
 pub record Reached (op : ℤ → ℤ → ℤ) (i j : Interval) (z : ℤ) : Type 0 where
   pub a : ℤ
   pub b : ℤ

@@ -1,4 +1,5 @@
--- The needs of `is_small`, `is_within`, `limited`, `lesser`, `greater` and `span`, each as it stands: the machine reads a number back from its bits.
+-- Facts for the proofs of `is_small`, `is_within`, `limited`, `lesser`, `greater` and `span`, in the form in which the proofs need them: the machine reads a number
+-- back from its bits.
 use mathlib.Core.Path.{_≡_, refl, sym, ap₂, _∙_}
 use mathlib.Core.Bool.{Bool, true, false, cond}
 use Prim.Native.Nat.{_<_, _^_}
@@ -34,7 +35,7 @@ module _ (x : ℤ) (f : SFits w64 x) where
   pub small-below : leZ (negℤ (pos (2 ^ 60))) (toZ w64 (ofZ w64 x)) ≡ false → leZ (negℤ (pos (2 ^ 60))) (toZ w64 (ofZ w64 x)) ≡ isSmall x
   small-below t = rw (toZ-ofZ f) (below x (rw (toZ-ofZ f) at t))
 
--- ---- is_within: b and d are what the two calls of `is_small` answered
+-- ---- is_within: b and d are what the two calls of `is_small` returned
 module _ (i : Interval) (b : Bool) (fl : SFits w64 (i .low)) (eb : b ≡ isSmall (toZ w64 (ofZ w64 (i .low)))) where
   low-is : isSmall (i .low) ≡ b
   low-is = rw (toZ-ofZ fl) at (sym eb)
@@ -63,7 +64,7 @@ module _ (a b x y : ℤ) (fa : SFits w64 a) (fb : SFits w64 b) where
   pub chosen-second : SFits w64 y → leZ (toZ w64 (ofZ w64 a)) (toZ w64 (ofZ w64 b)) ≡ false → toZ w64 (ofZ w64 y) ≡ cond (leZ a b) x y
   chosen-second fy t = rw (toZ-ofZ fy, rw (toZ-ofZ fa, toZ-ofZ fb) at t)
 
--- what a call of one of them answered, passed on: r is the answer, x and y were passed
+-- the result of one of them, passed on: r was returned for x and y
 module _ (r x y a b : ℤ) (f : mag r < 2 ^ 63) (p : toZ w64 (ofZ w64 x) ≡ a) (q : toZ w64 (ofZ w64 y) ≡ b) where
   pub lesser-told : r ≡ lesserOf (toZ w64 (ofZ w64 x)) (toZ w64 (ofZ w64 y)) → toZ w64 (ofZ w64 r) ≡ lesserOf a b
   lesser-told e = again w64 r (lesserOf a b) (e ∙ ap₂ lesserOf p q) f

@@ -15,11 +15,11 @@ isSmall z = leb (natAbs z) (2 ^ 60)
 unfoldable pub isWithin : Interval → Bool
 isWithin i = isSmall (i .low) && isSmall (i .high)
 
--- the one place where the limit is put to an interval
+-- the one place where an interval is held to the limit
 unfoldable pub boundedOf : Interval → Bounded
 boundedOf i = cond (isWithin i) (Within i) Past
 
--- both ends do, as an operation asks it of its operands
+-- both ends do, as an operation requires of its operands
 pub record SmallEnds (i : Interval) : Type 0 where
   pub low : natAbs (i .low) ≤ 2 ^ 60
   pub high : natAbs (i .high) ≤ 2 ^ 60

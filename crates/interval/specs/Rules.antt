@@ -1,4 +1,4 @@
--- What sums, differences, products and squares of intervals are, in exact whole numbers.
+-- Sum, difference, product and square of intervals, in exact whole numbers.
 use mathlib.Core.Bool.{cond}
 use lib.IntN.{ℤ, pos, _+ℤ_, _-ℤ_, _*ℤ_}
 use lib.Signed.{leZ}

@@ -21,7 +21,7 @@ pub struct Interval {
     pub high: i64,
 }
 
-// An interval whose ends lie within the limit, or word that an end is past it.
+// An interval with both ends within the limit, or Past, where an end is not.
 pub enum Bounded {
     Within(Interval),
     Past,
@@ -57,7 +57,7 @@ fn is_small_product(m: u64, n: u64) -> bool
     m <= LIMIT / n
 }
 
-// The product, exact within the limit; otherwise one past the limit, on the product's side.
+// The product where it is within the limit; otherwise the first number past the limit, on the product's side.
 fn times(a: i64, b: i64) -> i64
     requires { ⌜ natAbs a ≤ 2 ^ 60 ⌝ ∗ ⌜ natAbs b ≤ 2 ^ 60 ⌝ }
     ensures { λ r. ⌜ r ≡ clampOf (a *ℤ b) ⌝ }
@@ -101,7 +101,7 @@ impl Interval {
         is_small(self.low) && is_small(self.high)
     }
 
-    // The interval, where both its ends lie within the limit.
+    // The interval if both its ends lie within the limit, otherwise Past.
     pub fn limited(self) -> Bounded
         ensures { λ r. ⌜ r ≡ boundedOf self ⌝ }
     {

@@ -1,4 +1,4 @@
--- The root as a closed cube is the closed root, axis by axis; and a closed cube has its planes, the high ones too.
+-- The root as a closed cube is the closed root, axis by axis; and a closed cube includes its planes, the high ones too.
 use Prim.Native.Nat.{ℕ, _≤_}
 use native.Mathlib.Omega.{arith}
 use lib.IntN.{ℤ, pos, _+ℤ_}

@@ -1,4 +1,4 @@
--- Each point of a closed cube is beside a whole point of it, high planes left out, so that the cube of whatever leaf has the whole point has, closed, the point.
+-- Beside each point of a closed cube is a whole point of the cube, high planes left out. So the leaf that has the whole point has the point in its closed cube.
 use mathlib.Core.Path.{_≡_}
 use mathlib.Core.Bool.{true}
 use Prim.Native.Nat.{ℕ, zero, suc, _*_, _≤_, _<_}
@@ -16,7 +16,7 @@ use Rattle.cube.specs.Points.{axisHolds, holdsPoint}
 use Rattle.cube.proofs.Places.{axis-between, axis-holds, gap-added, axes}
 use Rattle.meaning.specs.Fractions.{FractionalPoint, BetweenPlanes, InClosed}
 
--- m is between two multiples of n that are next to each other, and the lesser is fewer than `side` times n
+-- m lies between two neighbouring multiples of n, the lesser of which is less than `side` times n
 record Beside (m n side : ℕ) : Type 0 where
   steps : ℕ
   below : steps < side

@@ -1,5 +1,5 @@
--- What a sheet means at a point, in other words than the definitions': values are ordinary fractions, over whatever denominator, and face, both, either and complement
--- have their plain meanings.
+-- What a sheet means at a point, said again in other words: values are ordinary fractions, over any denominator, and face, both, either and complement have their
+-- plain meanings.
 use mathlib.Core.Path.{_≡_, refl, sym, ap, ap₂, _∙_}
 use mathlib.Core.Bool.{Bool, true, false, _||_, not, true≢false, and-eq-true-iff}
 use mathlib.Core.List.{List, [], _∷_, _++_}
@@ -25,7 +25,7 @@ use Rattle.meaning.specs.Truth.{Value, over, Meaning, absent, valueOf, h
 abbrev pub Is : ℕ → Value → ℤ → ℕ → Type 0
 Is n v a m = v .numerator *ℤ pos m ≡ a *ℤ pos (n ^ v .power)
 
--- brought to j powers of n more
+-- brought to j more powers of n
 brought : (n m : ℕ) (c a : ℤ) (i j : ℕ) → c *ℤ pos m ≡ a *ℤ pos (n ^ i) → (c *ℤ pos (n ^ j)) *ℤ pos m ≡ a *ℤ pos (n ^ (i + j))
 brought n m c a i j e =
     *-assoc c (pos (n ^ j)) (pos m)

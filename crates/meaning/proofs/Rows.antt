@@ -37,7 +37,7 @@ unfolding inSolid holdsAt along onward meaningOf valueOf holdsOf
 rows = record { corner = refl; same = refl; past = refl; other = refl; before = refl }
 
 -- ---- the other kinds, at halves and thirds
--- the records of a value, and after them a face: the value, which is that of the record of this number, is at most c
+-- the records that work out a value, the last of which has the number `value`, and a face after them: the value is at most c
 abbrev atMost : List Record → ℕ → ℕ → List Record
 atMost [] value c = Constant (pos c) ∷ Difference value (suc value) ∷ Face (suc (suc value)) ∷ []
 atMost (r ∷ rs) value c = r ∷ atMost rs value c

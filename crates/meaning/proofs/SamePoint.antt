@@ -1,4 +1,4 @@
--- A point is where it is, however its fractions are written: whether a record holds there does not depend on the denominator.
+-- One point may be written over several denominators: whether a record holds there does not depend on the denominator.
 use mathlib.Core.Path.{_≡_, refl, sym, ap, ap₂, _∙_}
 use mathlib.Core.Bool.{not, _&&_, _||_}
 use mathlib.Core.List.{List}

@@ -25,7 +25,7 @@ held-closed q p e =
     let t = axes q p e in
     record { x = held-between _ _ _ (t .0); y = held-between _ _ _ (t .1); z = held-between _ _ _ (t .2) }
 
--- a point is in the cube of side 0 that it is
+-- a point is in its own cube, of side 0
 pub in-itself : (p : Point) → InClosed (pointCube p) (whole p)
 unfolding pointCube
 in-itself p = record { x = alone (p .x); y = alone (p .y); z = alone (p .z) }

@@ -19,7 +19,7 @@ pub record Value : Type 0 where
 abbrev pub over : ℤ → ℕ → Value
 over a k = record { numerator = a; power = k }
 
--- the numerator of a value, over k powers of n more
+-- the numerator of a value, over k more powers of n
 abbrev pub raised : ℕ → Value → ℕ → ℤ
 raised n v k = v .numerator *ℤ pos (n ^ k)
 

@@ -46,7 +46,7 @@ module _ (rs : List Record) where
   complement-names (Comp f) h = h
   complement-names Mixed h = refl
 
-  -- two states that neither decide nor leave it to the other
+  -- two states where neither decides and neither leaves it to the other
   otherwise-names : (decided s t : State) → names s ≡ true → names t ≡ true → names (otherwiseOf decided s t) ≡ true
   unfolding otherwiseOf
   otherwise-names decided s t hs ht = refl

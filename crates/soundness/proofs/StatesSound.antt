@@ -58,14 +58,14 @@ module _ (face : ℕ → Bool) where
   unfolding Sound
   out-fails s a e h = rw (is-out s e) at h
 
-  -- the one rule of both and either
+  -- the rule by which both and either join two states
   module _ (decides : State → Bool) (decided : State) (leaves : State → Bool) (join : Bool → Bool → Bool)
       (first-decides : (s : State) (a b : Bool) → decides s ≡ true → Sound face s a → Sound face decided (join a b))
       (second-decides : (t : State) (a b : Bool) → decides t ≡ true → Sound face t b → Sound face decided (join a b))
       (first-leaves : (s : State) (a b : Bool) → leaves s ≡ true → Sound face s a → join a b ≡ b)
       (second-leaves : (t : State) (a b : Bool) → leaves t ≡ true → Sound face t b → join a b ≡ a)
       (s t : State) (a b : Bool) (h : Sound face s a) (k : Sound face t b) where
-    -- two states that neither decide nor leave it to the other
+    -- two states where neither decides and neither leaves it to the other
     otherwise-sound : Sound face (otherwiseOf decided s t) (join a b)
     unfolding otherwiseOf
     otherwise-sound = mixed-sound (join a b)

@@ -1,4 +1,4 @@
--- Rules that look sensible and are wrong: for each, a sheet, a cube and a point of it at which the state that the rule gives says what is not so.
+-- Rules that look sensible and are wrong: for each, a sheet, a cube and a point of the cube where the state that the rule gives is not true.
 use mathlib.Core.Path.{_≡_, sym, ap}
 use mathlib.Core.Bool.{Bool, true, false, cond, _&&_, _||_, true≢false}
 use mathlib.Core.List.{List, [], _∷_}
@@ -64,7 +64,7 @@ sampled rs q = let inside : ℕ → Bool = λ k. inSolid rs (corner q k) in cond
 abbrev strip : List Record
 strip = X ∷ Constant (pos 1) ∷ Constant (pos 2) ∷ Difference 1 0 ∷ Difference 0 2 ∷ Face 3 ∷ Face 4 ∷ Both 5 6 ∷ []
 
--- a whole number, or a fraction, lies between two planes by computing
+-- that a number lies between two planes, by computing
 abbrev lies : {plane : ℤ} {side : ℕ} {a : ℤ} {n : ℕ} → T (leZ (plane *ℤ pos n) a) → T (leZ a ((plane +ℤ pos side) *ℤ pos n)) → BetweenPlanes plane side a n
 lies l u = record { low = record { le = l }; high = record { le = u } }
 

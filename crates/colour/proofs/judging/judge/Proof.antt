@@ -37,7 +37,8 @@ enum-told : tie.Need-enum-told Inv-loop μ-loop
 enum-told c = search needs
 
 returns : tie.Need-returns Inv-loop μ-loop
-returns c = search (needs, judged-past)
+returns c =
+    search (needs, judged-past _ _ _ _ _ _ _ _ _ (c .before .before .before .before .before .before .before .before .before .before .before .loop .inv))
 
 cast-state : tie.Need-cast-state Inv-loop μ-loop
 cast-state c = fits-under _ _ 256 (search (needs, number-few)) tt

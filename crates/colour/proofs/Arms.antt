@@ -24,8 +24,7 @@ use Rattle.cube.specs.declared.Cube.{Cube}
 use Rattle.colour.specs.declared.State.{State}
 use Rattle.colour.specs.Bounds.{across, none, boundsOf}
 use Rattle.colour.specs.States.{faceState, bothOf, eitherOf, complementOf, stateOf}
-use Rattle.colour.specs.Held.{stateBy}
-use Rattle.colour.specs.Held.{Held, heldAt}
+use Rattle.colour.specs.Held.{Held, heldAt, stateBy}
 
 -- an interval whose ends are within the limit is returned as it is
 within : (i : Interval) → SmallEnds i → Within i ≡ boundedOf i

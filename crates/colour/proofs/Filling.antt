@@ -35,8 +35,7 @@ use Rattle.colour.specs.declared.State.the-variants.{Out, In, Single, Co
 use Rattle.colour.specs.declared.Judged.the-variants.{Known, Past}
 use Rattle.colour.specs.Bounds.{boundsOf}
 use Rattle.colour.specs.States.{classOf, faceOf, stateOf}
-use Rattle.colour.specs.Held.{stateBy}
-use Rattle.colour.specs.Held.{Held, heldAt}
+use Rattle.colour.specs.Held.{Held, heldAt, stateBy}
 use Rattle.colour.specs.Entries.{Entry, blank, faceBounds, entryOf, entries, pastFrom, firstPast, judgedOf}
 use Rattle.colour.proofs.Arms.{zero-small}
 use Rattle.colour.proofs.FirstPast.{Keep, first-past, none-past, keep-more}

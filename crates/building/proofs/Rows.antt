@@ -12,8 +12,8 @@ use Rattle.sheet.proofs.StepRoom.{step-records, step-check}
 use Rattle.cube.specs.Limits.{axisFits, sizesFit, inLimits}
 use Rattle.cube.specs.Cubes.{rootCube, childOf}
 use Rattle.colour.specs.Bounds.{across, boundsOf}
-use Rattle.colour.specs.States.{faceState, bothOf, stateOf}
-use Rattle.colour.specs.Entries.{entryOf, beforePast, firstPast}
+use Rattle.colour.specs.States.{faceState, otherwiseOf, joinedBy, stateOf}
+use Rattle.colour.specs.Entries.{faceBounds, entryOf, pastFrom, firstPast}
 use Rattle.zonemap.specs.declared.Leaf.{Leaf}
 use Rattle.zonemap.specs.Map.{leafBytes, leavesBytes, cornerBytes, headerOf, mapOf}
 use Rattle.zonemap.specs.StepRoom.{stepRoot, stepMap}

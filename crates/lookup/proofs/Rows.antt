@@ -19,8 +19,8 @@ use Rattle.cube.specs.Points.{axisHolds, holdsPoint, pointCube, placeBy, placeO
 use Rattle.zonemap.specs.Opening.{lengthGood, rootOf, leafIn, leavesIn, levelGood, faceGood, placeGood, leafGood, leavesFault, headerFault, faultOf, leafAt}
 use Rattle.zonemap.specs.StepRoom.{stepMap}
 use Rattle.colour.specs.Bounds.{across, boundsOf}
-use Rattle.colour.specs.States.{faceState, bothOf, stateOf}
-use Rattle.colour.specs.Entries.{entryOf, beforePast, firstPast}
+use Rattle.colour.specs.States.{faceState, otherwiseOf, joinedBy, stateOf}
+use Rattle.colour.specs.Entries.{faceBounds, entryOf, pastFrom, firstPast}
 use Rattle.pair.specs.Pairs.{pairRefusal}
 use Rattle.lookup.specs.declared.Answer.the-variants.{Outside, Inside, Undecided}
 use Rattle.lookup.specs.declared.Reply.the-variants.{Done, Refused}

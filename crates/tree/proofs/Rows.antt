@@ -20,8 +20,8 @@ use Rattle.cube.specs.declared.Cube.{Cube}
 use Rattle.cube.specs.Cubes.{rootCube, childOf}
 use Rattle.colour.specs.Bounds.{across, boundsOf}
 use Rattle.colour.specs.declared.State.the-variants.{In, Out, Single}
-use Rattle.colour.specs.States.{faceState, bothOf, stateOf}
-use Rattle.colour.specs.Entries.{Entry, blank, entryOf, entries}
+use Rattle.colour.specs.States.{faceState, otherwiseOf, joinedBy, stateOf}
+use Rattle.colour.specs.Entries.{Entry, blank, faceBounds, entryOf, entries}
 use Rattle.zonemap.specs.declared.Leaf.{Leaf}
 use Rattle.zonemap.specs.StepRoom.{stepRoot}
 use Rattle.tree.specs.Visit.{upto, visit}
@@ -33,19 +33,19 @@ leaf level class face = record { level = level; class = class; face = face }
 
 -- S at d 0: one leaf, level 0, gray
 pub depth-0 : leavesBelow stepRecords 0 (rootCube (stepRoot 0)) ≡ leaf 0 4 0 ∷ []
-unfolding leavesBelow visit isGray leafOf solidState along onward entryOf boundsOf stateOf across sum difference faceState bothOf rootCube
+unfolding leavesBelow visit isGray leafOf solidState along onward entryOf faceBounds boundsOf stateOf across sum difference faceState joinedBy otherwiseOf rootCube
 depth-0 = refl
 
 -- S at d 1: 8 leaves
 pub depth-1 : leavesBelow stepRecords 1 (rootCube (stepRoot 1)) ≡ leaf 1 1 0 ∷ leaf 1 2 5 ∷ leaf 1 2 6 ∷ leaf 1 4 0 ∷ leaf 1 1 0 ∷ leaf 1 2 5 ∷ leaf 1 2 6 ∷ leaf 1 4 0 ∷ []
-unfolding leavesBelow visit upto isGray leafOf solidState along onward entryOf boundsOf stateOf across sum difference faceState bothOf rootCube childOf
+unfolding leavesBelow visit upto isGray leafOf solidState along onward entryOf faceBounds boundsOf stateOf across sum difference faceState joinedBy otherwiseOf rootCube childOf
 depth-1 = refl
 
 -- S at d 2: 22 leaves; each gray cube becomes gray, white, white, white, twice
 pub depth-2 :
     leavesBelow stepRecords 2 (rootCube (stepRoot 2))
     ≡ leaf 1 1 0 ∷ leaf 1 2 5 ∷ leaf 1 2 6 ∷ leaf 2 4 0 ∷ leaf 2 0 0 ∷ leaf 2 0 0 ∷ leaf 2 0 0 ∷ leaf 2 4 0 ∷ leaf 2 0 0 ∷ leaf 2 0 0 ∷ leaf 2 0 0 ∷ leaf 1 1 0 ∷ leaf 1 2 5 ∷ leaf 1 2 6 ∷ leaf 2 4 0 ∷ leaf 2 0 0 ∷ leaf 2 0 0 ∷ leaf 2 0 0 ∷ leaf 2 4 0 ∷ leaf 2 0 0 ∷ leaf 2 0 0 ∷ leaf 2 0 0 ∷ []
-unfolding leavesBelow visit upto isGray leafOf solidState along onward entryOf boundsOf stateOf across sum difference faceState bothOf rootCube childOf
+unfolding leavesBelow visit upto isGray leafOf solidState along onward entryOf faceBounds boundsOf stateOf across sum difference faceState joinedBy otherwiseOf rootCube childOf
 depth-2 = refl
 
 -- ---- a sheet whose last record is a face
@@ -54,13 +54,13 @@ module _ (rs : List Record) (a : ℕ) where
   faced = rs ++ Face a ∷ []
 
   -- its state is the face's own
-  solid-face : (q : Cube) → solidState faced q ≡ faceState (getD (entries q rs) a blank .bounds) (length rs)
+  solid-face : (q : Cube) → solidState faced q ≡ faceState (faceBounds q (getD (entries q rs) a blank)) (length rs)
   unfolding solidState entryOf stateOf
   solid-face q =
       let n : length faced - 1 ≡ length rs = omega (arith, length-append rs (Face a ∷ [])) in
       ap (λ (k : ℕ). getD (entries q faced) k blank .state) n
       ∙ ap (λ (e : Entry). e .state) (entry (entryOf q) rs (Face a) [] blank)
-      ∙ ap (faceState (getD (entries q rs) a blank .bounds)) (length-along (entryOf q) rs)
+      ∙ ap (faceState (faceBounds q (getD (entries q rs) a blank))) (length-along (entryOf q) rs)
 
   -- a face that is Single is so by its own number
   own-number : (i : Interval) (n f : ℕ) → faceState i n ≡ Single f → f ≡ n

@@ -1,4 +1,4 @@
--- What a reply tells: no refusal has code 0, and a reply that is no refusal is done.
+-- What a reply says: no refusal has code 0, and a reply that is not a refusal is done.
 use mathlib.Core.Path.{_≡_, refl}
 use mathlib.Core.List.{[]}
 use Prim.Native.Nat.{ℕ}

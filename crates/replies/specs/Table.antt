@@ -32,7 +32,7 @@ numberOf (OverSmaller n) = n
 numberOf (Short n) = n
 numberOf NotInRoot = 0
 
--- the refusal of a reply, where it is one
+-- the refusal of a reply, if it is one
 abbrev pub refusalOf : Reply → List Refusal
 refusalOf (Done n) = []
 refusalOf (Refused why) = why ∷ []

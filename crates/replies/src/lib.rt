@@ -18,7 +18,7 @@ pub enum Refusal {
     NotInRoot,
 }
 
-// What a call returns that counts something: records, leaves or bytes.
+// What a call returns: a number, such as that of records, leaves or bytes, or why it refuses.
 pub enum Reply {
     Done(usize),
     Refused(Refusal),

@@ -1,4 +1,4 @@
--- Where each number of a map stands, by its byte: that what was written is read back (`Trip`) does not say where.
+-- At which byte each number of a map is. `Trip` says that what was written is read back, but not where it is.
 use mathlib.Core.Path.{_≡_, refl, ap, _∙_}
 use mathlib.Core.Bool.{true}
 use mathlib.Core.List.{List, [], _∷_, _++_}
@@ -17,7 +17,7 @@ use Rattle.zonemap.specs.Leaves.{nowhere}
 use Rattle.zonemap.proofs.Bytes.{header-length}
 use Rattle.zonemap.proofs.Trip.{root-back}
 
--- Bytes 0 to 3: how many bytes follow. Byte 4: version, 1. Then X, Y, Z, k, d. With n leaves the map has 19 + 3n bytes, four of them before those that are counted.
+-- Bytes 0 to 3: how many bytes follow. Byte 4: version, 1. Then X, Y, Z, k, d. With n leaves the map has 19 + 3n bytes, so 15 + 3n follow the first four.
 pub record Header (r : Root) (n : ℕ) (s : List ℕ) : Type 0 where
   pub follow : unsignedAt 4 s 0 ≡ 15 + 3 * n
   pub version : getD s 4 0 ≡ 1

@@ -1,4 +1,4 @@
--- The bytes of a map: how many they are, and that stores one after another leave them.
+-- The bytes of a map: their number, and that the stores, one after another, write them.
 use mathlib.Core.Path.{_≡_, refl, ap, _∙_}
 use mathlib.Core.List.{List, [], _∷_, _++_}
 use Prim.Native.Nat.{ℕ, suc, _+_, _*_, _≤_, _<_}
@@ -15,7 +15,7 @@ use Rattle.cube.specs.declared.Root.{Root}
 use Rattle.zonemap.specs.declared.Leaf.{Leaf}
 use Rattle.zonemap.specs.Map.{leafBytes, leavesBytes, signedBytes, cornerBytes, headerOf, mapOf}
 
--- ---- how many
+-- ---- their number
 pub leaves-bytes-length : (ls : List Leaf) → length (leavesBytes ls) ≡ 3 * length ls
 unfolding leavesBytes leafBytes
 leaves-bytes-length [] = refl
@@ -46,7 +46,7 @@ leaf-stored d at l =
     let two : at + 2 ≡ suc (suc at) = omega arith in
     rw (one, two)
 
--- put_corner: d₁, d₂ and d₃ are what the calls left
+-- put_corner: d₁, d₂ and d₃ are the buffer after each call
 module _ (r : Root) (d d₁ d₂ d₃ : List ℕ) (fx : SFits w32 (r .x)) (fy : SFits w32 (r .y)) (fz : SFits w32 (r .z)) where
   pub corner-stored : d₁ ≡ sets d 5 (signedBytes (toZ w32 (ofZ w32 (r .x)))) → d₂ ≡ sets d₁ 9 (signedBytes (toZ w32 (ofZ w32 (r .y)))) → d₃ ≡ sets d₂ 13 (signedBytes (toZ w32 (ofZ w32 (r .z)))) →
       d₃ ≡ sets d 5 (cornerBytes r)
@@ -62,7 +62,7 @@ module _ (r : Root) (d d₁ d₂ d₃ : List ℕ) (fx : SFits w32 (r .x)) (fy : 
       second : (u v : ℕ) → 13 ≡ 5 + length (bytesOf 4 u ++ bytesOf 4 v)
       second u v = omega (arith, length-append (bytesOf 4 u) (bytesOf 4 v), bytes-length 4 u, bytes-length 4 v)
 
--- put_header: d₁ and d₂ are what the calls left, v the version
+-- put_header: d₁ and d₂ are the buffer after each call, v the version
 module _ (d d₁ d₂ : List ℕ) (v : ℕ) where
   module _ (e : length d₁ ≡ length d) where
     pub corner-room : 19 ≤ length d → 17 ≤ length (set d₁ 4 v)

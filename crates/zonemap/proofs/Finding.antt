@@ -1,4 +1,4 @@
--- The leaf found: exactly one holds a place, and its three bytes are in the map.
+-- The leaf that is found: exactly one leaf holds a place, and its three bytes are in the map.
 use mathlib.Core.Path.{_≡_, refl, ap}
 use mathlib.Core.Bool.{Bool, true}
 use mathlib.Core.List.{List, [], _∷_}
@@ -28,7 +28,7 @@ leaf-holds Each d m p e (l ∷ ls) r h k =
     let i = leaf-holds Each d m (p + sizeOf d l) e ls (r .1) (ltb-false m (p + sizeOf d l) t) k in
     rw t (record { among = omega (arith, i .among); from = omega (arith, i .from); till = omega (arith, i .till) }))
 
--- it is one and only one
+-- and no other leaf holds it
 pub holds-one : (d m p i : ℕ) (ls : List Leaf) → Holds d m p i ls → i ≡ leafAt d m p ls
 unfolding leafAt placeAt
 holds-one d m p i [] h = let z : ⊥ = omega (arith, h .among) in absurd z

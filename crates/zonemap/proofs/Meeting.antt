@@ -1,4 +1,4 @@
--- Each leaf of a map that opens: its bytes are in the map, its level is one that the root has, and its place ends in the root.
+-- Each leaf of a map that opens: its bytes are in the map, its level is at most the depth, and it ends within the root.
 use mathlib.Core.Path.{_≡_, refl, sym, _∙_}
 use mathlib.Core.Bool.{Bool, true}
 use mathlib.Core.List.{List, [], _∷_}
@@ -35,7 +35,7 @@ count-is map = sym (leaves-count map ((length map - 19) / 3) 19)
 pub open-long : (map : List ℕ) → ((named : ℕ → Bool) × (faultOf named map ≡ [])) → 19 ≤ length map
 open-long map opens = opens-sizes (opens .0) map (opens .1) .0
 
--- each leaf has at least one smallest cube, so that there are not more than 8^d
+-- each leaf has at least one smallest cube, so there are at most 8^d leaves
 few : (d : ℕ) (ls : List Leaf) → length ls ≤ placeAt d (length ls) ls
 unfolding placeAt
 few d [] = omega arith
@@ -55,7 +55,7 @@ pub first-place : (map : List ℕ) → 0 ≡ nthPlace map 0
 unfolding placeAt
 first-place map = refl
 
--- and goes on with the place after each leaf
+-- and continues at the place after each leaf
 pub next-place : (map : List ℕ) (i : ℕ) (met : Met) → met ≡ record { leaf = nthLeaf map i; cube = nthCube map i; next = nthPlace map (i + 1) } → met .next ≡ nthPlace map (i + 1)
 next-place map i met e = rw e
 

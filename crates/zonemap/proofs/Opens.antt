@@ -1,4 +1,4 @@
--- What the answers on the way to opening a map tell of it, and opening without a sheet.
+-- What the results on the way to opening a map say about it, and opening without a sheet.
 use mathlib.Core.Path.{_≡_, refl, sym, ap, _∙_}
 use mathlib.Core.Bool.{Bool, true, false}
 use mathlib.Core.List.{List, [], _∷_}
@@ -32,7 +32,7 @@ use Rattle.zonemap.specs.Opening.{rootOf, leafIn, leavesIn, leavesOf, fa
 use Rattle.zonemap.specs.Inner.{marked}
 use Rattle.zonemap.proofs.Finding.{leaves-count, header-sizes, opens-sizes}
 
--- ---- the header's answer
+-- ---- what `read_header` returned
 header-clash : (n : ℕ) (r : Root) → BadHeader n ≡ GoodHeader r → ⊥
 header-clash n r e = let z : _≡_ {A = ℕ} 0 1 = cc in omega arith
 
@@ -46,13 +46,13 @@ module _ (map : List ℕ) (h : Header) (e : h ≡ onFirst (headerFault map) BadH
   pub header-root : (root : Root) → h ≡ GoodHeader root → root ≡ rootOf map
   header-root root k = let t = header-good root k .1 in cc
 
-  -- its fault is the map's, whatever faces may be named
+  -- a fault in the header is the map's first, whatever faces may be named
   pub header-bad : (at : ℕ) → h ≡ BadHeader at → (named : ℕ → Bool) {C : Type 0} (f : ℕ → C) (rest : C) → onFirst (faultOf named map) f rest ≡ f at
   unfolding faultOf
   header-bad at k named f rest =
       ap (λ (ns : List ℕ). onFirst ns f rest) (bad-first BadHeader _ (λ n. header-clash n (rootOf map)) (λ n m q. cc) (headerFault map) at (sym e ∙ k) (λ (n : ℕ). n ∷ []) (leavesFault named (rootOf map .d) 0 19 (leavesOf map)))
 
--- ---- the scan's answer
+-- ---- what `scan` returned
 leaves-clash : (n m : ℕ) → BadLeaves n ≡ At m → ⊥
 leaves-clash n m e = let z : _≡_ {A = ℕ} 0 1 = cc in omega arith
 
@@ -65,7 +65,7 @@ module _ (faults : List ℕ) (found : ℕ) (o : Scanned) (e : o ≡ onFirst faul
   pub leaves-bad : (at : ℕ) → o ≡ BadLeaves at → {C : Type 0} (f : ℕ → C) (rest : C) → onFirst faults f rest ≡ f at
   leaves-bad at k f rest = bad-first BadLeaves _ (λ n. leaves-clash n found) (λ n m q. cc) faults at (sym e ∙ k) f rest
 
--- ---- the place of a point: b is what the root's cube q returned
+-- ---- the place of a point: b is what `holds` returned for the root's cube q
 module _ (root : Root) (p : Point) (q : Cube) (is : q ≡ rootCube root) (b : Bool) (e : b ≡ holdsPoint q p) where
   pub holds-is : b ≡ holdsPoint (rootCube root) p
   holds-is = e ∙ ap (λ (k : Cube). holdsPoint k p) is
@@ -123,7 +123,7 @@ module _ (map : List ℕ) (root : Root) (head : headerFault map ≡ []) (is : ro
       unfolding foundOf
       fault-found at k = sym (ap (λ (ns : List ℕ). onFirst ns Bad (FoundAt (rootOf map) (offsetAt map (placeOrFirst (rootOf map) p)))) fault ∙ leaves-bad faults _ o e at k Bad _)
 
--- ---- what it tells
+-- ---- what its result says about the map
 found-clash : (n : ℕ) (root : Root) (at : ℕ) → Bad n ≡ FoundAt root at → ⊥
 found-clash n root at e = let z : _≡_ {A = ℕ} 0 1 = cc in omega arith
 

@@ -50,7 +50,7 @@ past : faultOf both (mapOf (stepRoot 1) (four ++ four ++ four)) ≡ 43 ∷ []
 unfolding faultOf headerFault lengthGood rootOf leavesFault leafGood levelGood faceGood placeGood leavesIn leafIn unsignedAt signed32 inLimits sizesFit axisFits mapOf headerOf cornerBytes leavesBytes leafBytes bytesOf unsigned32
 past = refl
 
--- place 1, where the point 2 0 0 is, is held by the second leaf
+-- the second leaf holds place 1, which is that of the point (2,0,0)
 second : offsetAt stepMap 1 ≡ 22
 unfolding rootOf leafAt leavesIn leafIn
 second = refl

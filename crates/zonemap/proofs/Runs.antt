@@ -1,4 +1,4 @@
--- Runs of leaves: a map opens exactly where its leaves run from 0 to 8^d, each good at its own place.
+-- Runs of leaves: the leaves of a map have no fault exactly if they run from 0 to 8^d, each good at its own place.
 use mathlib.Core.Path.{_≡_, sym, _∙_}
 use mathlib.Core.Bool.{Bool, true, false, _&&_, and-eq-true-iff}
 use mathlib.Core.List.{List, [], _∷_, _++_}
@@ -40,7 +40,7 @@ module _ (named : ℕ → Bool) (d p : ℕ) (l : Leaf) where
   good-place e = place-told d l p (leaf-parts e .2)
 
 -- ---- runs
--- the leaves run from place p to place e, and each is what `Each` says of it at its own place
+-- the leaves run from place p to place e, and `Each` holds for each of them at its own place
 unfoldable pub Run : (ℕ → Leaf → Type 0) → ℕ → ℕ → List Leaf → ℕ → Type 0
 Run Each d p [] e = p ≡ e
 Run Each d p (l ∷ ls) e = Each p l × Run Each d (p + sizeOf d l) ls e
@@ -56,7 +56,7 @@ module _ (Each : ℕ → Leaf → Type 0) (d : ℕ) where
   run-map To t p e [] r = r
   run-map To t p e (l ∷ ls) r = (t p l (r .0), run-map To t (p + sizeOf d l) e ls (r .1))
 
-  -- leaf i of a run is what `Each` says at its own place
+  -- `Each` holds for leaf i of a run at its own place
   pub run-at : (p e i : ℕ) (ls : List Leaf) → Run Each d p ls e → i < length ls → Each (p + placeAt d i ls) (getD ls i nowhere)
   unfolding Run placeAt
   run-at p e i [] r h = absurd (omega arith)
@@ -65,13 +65,13 @@ module _ (Each : ℕ → Leaf → Type 0) (d : ℕ) where
       let z : p + (sizeOf d l + placeAt d i ls) ≡ p + sizeOf d l + placeAt d i ls = omega arith in
       rw z (run-at (p + sizeOf d l) e i ls (r .1) (omega arith))
 
-  -- and it ends where the sizes of all leaves add up to
+  -- a run ends at its start plus the sizes of all its leaves
   pub run-end : (p e : ℕ) (ls : List Leaf) → Run Each d p ls e → p + placeAt d (length ls) ls ≡ e
   unfolding Run placeAt
   run-end p e [] r = omega (arith, r)
   run-end p e (l ∷ ls) r = omega (arith, run-end (p + sizeOf d l) e ls (r .1))
 
-  -- leaves of which each is so at its own place are a run
+  -- leaves are a run if `Each` holds for each of them at its own place
   pub at-run : (p e : ℕ) (ls : List Leaf) → ((i : ℕ) → i < length ls → Each (p + placeAt d i ls) (getD ls i nowhere)) → p + placeAt d (length ls) ls ≡ e → Run Each d p ls e
   unfolding Run placeAt
   at-run p e [] h k = omega (arith, k)
@@ -82,12 +82,12 @@ module _ (Each : ℕ → Leaf → Type 0) (d : ℕ) where
         (omega (arith, k)),
   )
 
--- ---- opening is a run
--- good at its place
+-- ---- leaves without a fault are a run
+-- a leaf is good at its place
 abbrev pub Fine : (ℕ → Bool) → ℕ → ℕ → Leaf → Type 0
 Fine named d p l = leafGood named d p l ≡ true
 
--- one fault is not none
+-- a list of one fault is not empty
 pub one-fault : (at : ℕ) → _≡_ {A = List ℕ} (at ∷ []) [] → ⊥
 one-fault at e = let z : _≡_ {A = ℕ} 0 1 = cc in omega arith
 
@@ -98,7 +98,7 @@ module _ (named : ℕ → Bool) (d : ℕ) where
   opens-run p at (l ∷ ls) e =
       by-test (leafGood named d p l) (λ t. (t, opens-run (p + sizeOf d l) (at + 3) ls (rw t at e))) (λ t. absurd (one-fault at (rw t at e)))
 
-  -- the first fault: that of the first leaf which is not good, or the end of leaves that stop short
+  -- the first fault: the first leaf that is not good, or the end of leaves that stop short
   pub leaf-fault : (p at i : ℕ) (ls : List Leaf) → i < length ls → ((j : ℕ) → j < i → Fine named d (p + placeAt d j ls) (getD ls j nowhere)) → leafGood named d (p + placeAt d i ls) (getD ls i nowhere) ≡ false
       → leavesFault named d p at ls ≡ (at + 3 * i) ∷ []
   unfolding leavesFault placeAt

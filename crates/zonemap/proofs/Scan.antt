@@ -1,4 +1,4 @@
--- The scan over a map's leaves: the needs of `find`, each as it stands.
+-- The loop over a map's leaves: what the proof of `scan` needs.
 use mathlib.Core.Path.{_≡_, refl, _∙_}
 use mathlib.Core.Bool.{Bool, cond}
 use mathlib.Core.List.{List, [], _∷_}
@@ -16,7 +16,7 @@ use Rattle.zonemap.specs.Opening.{leafIn, leavesIn, leavesFrom, leavesOf
 use Rattle.zonemap.proofs.Powers.{power-below}
 use Rattle.zonemap.proofs.Tests.{Sized, sized-good, sized-bad, sized-room}
 
--- ---- the leaves that are left
+-- ---- the remaining leaves
 module _ (s : List ℕ) (at : ℕ) where
   pub more : at < length s → at % 3 ≡ 1 → length s % 3 ≡ 1 → leavesFrom s at ≡ leafIn s at ∷ leavesFrom s (at + 3)
   unfolding leavesIn
@@ -27,12 +27,12 @@ module _ (s : List ℕ) (at : ℕ) where
   no-more h = let e : (length s - at) / 3 ≡ 0 = omega arith in rw e
 
 -- ---- the leaf that holds place m
--- its offset, where the leaves from `at` on are left: one of them, unless m was passed
+-- its offset, when the leaves from `at` on remain: it is one of them, or the one at `found` if m was passed
 abbrev offsetFrom : ℕ → ℕ → ℕ → ℕ → ℕ → List Leaf → ℕ
 offsetFrom d m place at found ls = cond (leb place m) (at + 3 * leafAt d m place ls) found
 
 module _ (d m place at found : ℕ) (l : Leaf) (ls : List Leaf) where
-  -- past one leaf more it is the same
+  -- it is the same one leaf further on
   offset-on : offsetFrom d m (place + sizeOf d l) (at + 3) (cond (leb place m) at found) ls ≡ offsetFrom d m place at found (l ∷ ls)
   unfolding leafAt
   offset-on =
@@ -42,7 +42,7 @@ module _ (d m place at found : ℕ) (l : Leaf) (ls : List Leaf) where
       (λ u. rw (t, u, le-leb (place + sizeOf d l) m (ltb-false m (place + sizeOf d l) u)) (omega arith)))
       (λ t. rw (t, lt-leb (place + sizeOf d l) m (omega (arith, leb-false place m t))))
 
--- ---- the invariant: what is left tells what the whole does
+-- ---- the invariant: the remaining leaves give the same result as all of them
 pub record Scan (named : ℕ → Bool) (s : List ℕ) (d m place at found : ℕ) : Type 0 where
   pub beat : at % 3 ≡ 1
   pub whole : length s % 3 ≡ 1
@@ -52,7 +52,7 @@ pub record Scan (named : ℕ → Bool) (s : List ℕ) (d m place at found : ℕ)
   pub same-leaf : offsetFrom d m place at found (leavesFrom s at) ≡ 19 + 3 * leafAt d m 0 (leavesOf s)
 
 module _ (named : ℕ → Bool) (s : List ℕ) (d m : ℕ) where
-  -- what `find` answers
+  -- what `scan` returns
   abbrev Answer : Scanned
   Answer = onFirst (leavesFault named d 0 19 (leavesOf s)) Bad (At (19 + 3 * leafAt d m 0 (leavesOf s)))
 
@@ -61,7 +61,7 @@ module _ (named : ℕ → Bool) (s : List ℕ) (d m : ℕ) where
       record { beat = refl; whole = e; room = omega arith; small = power-below d h; same-fault = refl; same-leaf = rw (le-leb 0 m (omega arith)) }
 
   module _ (place at found : ℕ) (i : Scan named s d m place at found) where
-    -- l is what `leaf_at` answered, r what `good_size` did and f what `last_before` did
+    -- l, r and f are what `leaf_at`, `good_size` and `last_before` returned
     module _ (l : Leaf) (el : l ≡ leafIn s at) (r : ℕ) (er : r ≡ Sized named d place l) where
       pub scan-room : place + r ≤ 2 ^ 30
       scan-room = omega (arith, sized-room named d place l r er (i .room), i .small)
@@ -90,7 +90,7 @@ module _ (named : ℕ → Bool) (s : List ℕ) (d m : ℕ) where
       unfolding leavesFault
       scan-short k = rw (← i .same-fault, no-more s at h, ne-eqb place (8 ^ d) (λ z. omega arith))
 
-      -- no leaf ends past 8^d, so that the sum is 8^d where it is not less
+      -- no leaf ends past 8^d, so the sum is 8^d if it is not less
       pub scan-good : m < 8 ^ d → 8 ^ d ≤ place → At found ≡ Answer
       unfolding leavesFault
       scan-good k n =

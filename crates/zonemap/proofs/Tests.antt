@@ -1,4 +1,4 @@
--- The tests of a map's bytes: the needs of the functions of `opening` that judge the header and one leaf, each as it stands.
+-- The tests of the header and of one leaf: what the proofs of these functions of `opening` need.
 use mathlib.Core.Path.{_≡_, sym, _∙_}
 use mathlib.Core.Bool.{Bool, true, false, cond, not, _&&_, and-true, and-false, and-eq-true-iff}
 use mathlib.Core.List.{List}
@@ -26,7 +26,7 @@ use Rattle.zonemap.proofs.Powers.{power-below}
 use Rattle.zonemap.proofs.Runs.{level-told, good-place}
 
 -- ---- the bytes before the leaves
--- length_is_good: u is what `u32_at` answered
+-- length_is_good: u is what `u32_at` returned
 module _ (s : List ℕ) where
   pub length-short : length s < 19 → false ≡ lengthGood s
   unfolding lengthGood
@@ -44,7 +44,7 @@ module _ (s : List ℕ) where
     unfolding lengthGood
     length-differs f = rw (← e, ne-eqb (u + 4) (length s) f)
 
--- the length is at least 19, and 3n more
+-- a good length is 19 + 3n
 pub length-told : (s : List ℕ) → lengthGood s ≡ true → (19 ≤ length s) × (length s % 3 ≡ 1)
 unfolding lengthGood
 length-told s e =
@@ -56,13 +56,13 @@ length-told s e =
     let h : u % 3 ≡ 0 = eqb-true (u % 3) 0 (a .1) in
     (omega arith, omega arith)
 
--- root: x, y and z are what `i32_at` answered
+-- root: x, y and z are what `i32_at` returned
 pub root-told : (s : List ℕ) (x y z : ℤ) → x ≡ signedAt s 5 → y ≡ signedAt s 9 → z ≡ signedAt s 13 → mag x < 2 ^ 31 → mag y < 2 ^ 31 → mag z < 2 ^ 31 →
     _≡_ {A = Root} (record { x = toZ w32 (ofZ w32 x); y = toZ w32 (ofZ w32 y); z = toZ w32 (ofZ w32 z); k = getD s 17 0; d = getD s 18 0 }) (rootOf s)
 unfolding rootOf
 root-told s x y z ex ey ez fx fy fz = rw (again w32 x (signedAt s 5) ex fx, again w32 y (signedAt s 9) ey fy, again w32 z (signedAt s 13) ez fz)
 
--- read_header: g is what `length_is_good` answered, r what `root` did and w what `is_within` did
+-- read_header: g, r and w are what `length_is_good`, `root` and `is_within` returned
 module _ (s : List ℕ) (g : Bool) (eg : g ≡ lengthGood s) where
   pub bad-length : not g ≡ true → BadHeader 0 ≡ onFirst (headerFault s) BadHeader (GoodHeader (rootOf s))
   unfolding headerFault
@@ -104,7 +104,7 @@ module _ (d : ℕ) (l : Leaf) where
 
 -- face_is_good
 module _ (named : ℕ → Bool) (l : Leaf) where
-  -- from 2 to below 4 is 2 or 3
+  -- a class from 2 to below 4 is 2 or 3
   pub face-named : 2 ≤ l .class → l .class < 4 → named (l .face) ≡ faceGood named l
   unfolding faceGood
   face-named h k =
@@ -119,7 +119,7 @@ module _ (named : ℕ → Bool) (l : Leaf) where
 pub size-some : (n s : ℕ) → s ≡ 8 ^ n → 0 < s
 size-some n s e = omega (arith, one-le-pow n 8 (zero-lt-suc 7))
 
--- size_in_place: s is what `eight_to` answered of n
+-- size_in_place: s is what `eight_to` returned for n
 module _ (d p n s : ℕ) (e : s ≡ 8 ^ n) where
   abbrev Placed : ℕ
   Placed = cond (eqb (p % 8 ^ n) 0 && leb (p + 8 ^ n) (8 ^ d)) (8 ^ n) 0
@@ -136,12 +136,12 @@ module _ (d p n s : ℕ) (e : s ≡ 8 ^ n) where
 pub power-small : (n w : ℕ) → w ≡ 8 ^ n → n ≤ 10 → w ≤ 2 ^ 30
 power-small n w e h = omega (arith, power-below n h)
 
--- good_size: a and b are what `level_is_good` and `face_is_good` answered, r what `size_in_place` did
+-- good_size: a, b and r are what `level_is_good`, `face_is_good` and `size_in_place` returned
 pub size-room : (d : ℕ) (l : Leaf) (a : Bool) → a ≡ levelGood d l → a ≡ true → l .level ≤ d
 size-room d l a e t = level-told d l (sym e ∙ t) .0
 
 module _ (named : ℕ → Bool) (d p : ℕ) (l : Leaf) where
-  -- a leaf's size where it is good, else 0
+  -- a leaf's size if it is good, else 0
   abbrev pub Sized : ℕ
   Sized = cond (leafGood named d p l) (sizeOf d l) 0
 
@@ -159,7 +159,7 @@ module _ (named : ℕ → Bool) (d p : ℕ) (l : Leaf) where
       unfolding leafGood placeGood
       size-placed r t e = e ∙ rw (sym ea ∙ ta, sym eb ∙ t)
 
-  -- ---- what a size tells: r is what `good_size` answered
+  -- ---- what a size says: r is what `good_size` returned
   module _ (r : ℕ) (e : r ≡ Sized) where
     pub sized-good : (r ≡ 0 → ⊥) → (leafGood named d p l ≡ true) × (r ≡ sizeOf d l)
     sized-good n = by-test (leafGood named d p l) (λ t. (t, e ∙ rw t)) (λ t. absurd (n (e ∙ rw t)))

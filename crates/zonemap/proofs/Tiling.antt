@@ -1,4 +1,4 @@
--- Each whole point of the root of a map that opens is in one leaf of it, and in one only: the leaf that holds its place.
+-- In a map that opens, each whole point of the root is in exactly one leaf: the one that holds the point's place.
 use mathlib.Core.Path.{_≡_}
 use mathlib.Core.Bool.{Bool, true}
 use mathlib.Core.List.{List, []}
@@ -61,7 +61,7 @@ module _ (named : ℕ → Bool) (s : List ℕ) (opens : faultOf named s ≡ []) 
     held : Holds d (placeOf r p) 0 one ls
     held = leaf-holds (Fine named d) d (placeOf r p) 0 (8 ^ d) ls run (omega arith) (place-below r p)
 
-    -- a point in the root always finds its leaf
+    -- it is a leaf of the map, and its cube holds the point
     pub in-one : (one < length ls) × InLeaf p one
     in-one =
         let t = times one (held .among) in (
@@ -71,7 +71,7 @@ module _ (named : ℕ → Bool) (s : List ℕ) (opens : faultOf named s ≡ []) 
               (omega (arith, t, held .from)) (omega (arith, t, held .till))),
         )
 
-    -- and no other leaf has it
+    -- and no other leaf's does
     pub only-one : (i : ℕ) → i < length ls → InLeaf p i → i ≡ one
     only-one i h e =
         let t = times i h in

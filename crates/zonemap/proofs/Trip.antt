@@ -1,4 +1,4 @@
--- The round trip: what is written is read.
+-- The round trip: what is written is read back.
 use mathlib.Core.Path.{_≡_, refl}
 use mathlib.Core.Bool.{Bool, true}
 use mathlib.Core.List.{List, [], _∷_, _++_, append-assoc}

@@ -1,4 +1,4 @@
--- The faces that may be named, as a scan is told them. Only inner contracts cite this.
+-- The faces that may be named, as they are passed to a scan. Only inner contracts cite this.
 use Prim.Native.Nat.{ℕ}
 use mathlib.Core.Bool.{Bool}
 use mathlib.Core.List.{List}

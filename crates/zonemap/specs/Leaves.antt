@@ -1,4 +1,4 @@
--- The leaf that holds a place, in words that no code rests on.
+-- Leaf i of a map, its place and its cube, and what it means that a leaf holds a place.
 use Prim.Native.Nat.{ℕ, zero, suc, _+_, _≤_, _<_}
 use mathlib.Core.List.{List, [], _∷_}
 use lib.ListN.{length, getD}
@@ -13,7 +13,7 @@ placeAt d zero ls = 0
 placeAt d (suc i) [] = 0
 placeAt d (suc i) (l ∷ ls) = sizeOf d l + placeAt d i ls
 
--- a leaf that stands nowhere
+-- the default for a missing leaf
 abbrev pub nowhere : Leaf
 nowhere = record { level = 0; class = 0; face = 0 }
 

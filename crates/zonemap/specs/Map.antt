@@ -18,7 +18,7 @@ leavesBytes (l ∷ ls) = leafBytes l ++ leavesBytes ls
 abbrev pub mapVersion : ℕ
 mapVersion = 1
 
--- With n leaves the map has 19 + 3n bytes: so many come before the leaves.
+-- With n leaves the map has 19 + 3n bytes: 19 come before the leaves.
 abbrev pub headerSize : ℕ
 headerSize = 19
 
@@ -33,6 +33,6 @@ cornerBytes r = signedBytes (r .x) ++ signedBytes (r .y) ++ signedBytes (r .z)
 unfoldable pub headerOf : Root → ℕ → List ℕ
 headerOf r n = bytesOf 4 (15 + 3 * n) ++ mapVersion ∷ [] ++ cornerBytes r ++ r .k ∷ r .d ∷ []
 
--- the map of these leaves, in their order
+-- the map with these leaves, in their order
 unfoldable pub mapOf : Root → List Leaf → List ℕ
 mapOf r ls = headerOf r (length ls) ++ leavesBytes ls

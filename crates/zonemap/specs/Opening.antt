@@ -1,4 +1,4 @@
--- Opening a map: whether its bytes are one, and else the offset of the first fault.
+-- Opening a map: the tests of its bytes, the offset of the first fault, and the leaf that holds a place or a point.
 use Prim.Native.Nat.{ℕ, zero, suc, _+_, _-_, _*_, _/_, _%_, _^_}
 use mathlib.Core.Bool.{Bool, true, cond, not, _&&_, _||_}
 use mathlib.Core.List.{List, [], _∷_}
@@ -46,7 +46,7 @@ abbrev pub leavesOf : List ℕ → List Leaf
 leavesOf s = leavesFrom s headerSize
 
 -- ---- one leaf
--- how many smallest cubes a leaf has: 8^(d-level)
+-- the number of smallest cubes in a leaf: 8^(d-level)
 abbrev pub sizeOf : ℕ → Leaf → ℕ
 sizeOf d l = 8 ^ (d - l .level)
 
@@ -54,7 +54,7 @@ sizeOf d l = 8 ^ (d - l .level)
 unfoldable pub levelGood : ℕ → Leaf → Bool
 levelGood d l = leb (l .level) d && leb (l .class) 4 && (not (eqb (l .class) 4) || eqb (l .level) d)
 
--- face 0 unless class 2 or 3, and then one that may be named
+-- face 0 unless class 2 or 3, and then a face that may be named
 unfoldable pub faceGood : (ℕ → Bool) → Leaf → Bool
 faceGood named l = cond (eqb (l .class) 2 || eqb (l .class) 3) (named (l .face)) (eqb (l .face) 0)
 
@@ -65,8 +65,8 @@ placeGood d place l = eqb (place % sizeOf d l) 0 && leb (place + sizeOf d l) (8 
 unfoldable pub leafGood : (ℕ → Bool) → ℕ → ℕ → Leaf → Bool
 leafGood named d place l = levelGood d l && faceGood named l && placeGood d place l
 
--- ---- the first fault, where there is one
--- Of the leaves from `at` on, whose first is at `place`: a bad leaf's first byte, or the end where they stop short. The place of a leaf is the sum of
+-- ---- the first fault, if there is one
+-- In the leaves from `at` on, the first of which is at `place`: a bad leaf's first byte, or the end if they stop short. The place of a leaf is the sum of
 -- 8^(d-level) over earlier leaves, and the sum over all is exactly 8^d.
 unfoldable pub leavesFault : (ℕ → Bool) → ℕ → ℕ → ℕ → List Leaf → List ℕ
 leavesFault named d place at [] = cond (eqb place (8 ^ d)) [] (at ∷ [])
@@ -80,11 +80,11 @@ headerFault s =
     (cond (not (inLimits (rootOf s))) (5 ∷ [])
     []))
 
--- of a whole map, where `named` says which face numbers a terminal leaf may have
+-- in a whole map; `named` says which face numbers a terminal leaf may have
 unfoldable pub faultOf : (ℕ → Bool) → List ℕ → List ℕ
 faultOf named s = onFirst (headerFault s) (λ at. at ∷ []) (leavesFault named (rootOf s .d) 0 headerSize (leavesOf s))
 
--- opening without a sheet, so that a terminal leaf may name any face
+-- without a sheet, a terminal leaf may name any face
 abbrev pub anyFace : ℕ → Bool
 anyFace f = true
 
@@ -103,7 +103,7 @@ abbrev pub offsetAt : List ℕ → ℕ → ℕ
 offsetAt s m = headerSize + 3 * leafAt (rootOf s .d) m 0 (leavesOf s)
 
 -- ---- the leaf that holds a point
--- its place; a point outside the root has none, and gets the first
+-- its place, or the first place for a point outside the root, which has none
 unfoldable pub placeOrFirst : Root → Point → ℕ
 placeOrFirst root p = cond (holdsPoint (rootCube root) p) (placeOf root p) 0
 

@@ -16,20 +16,20 @@ ghost use lib.ListN.{length};
 ghost use lib.Seq.{sets};
 ghost use Rattle.zonemap.specs.Map.{headerSize, leafBytes, cornerBytes, headerOf};
 
-// A leaf by its level, its class and its face number.
+// A leaf: its level, its class and its face number.
 pub struct Leaf {
     pub level: u8,
     pub class: u8,
     pub face: u8,
 }
 
-// The root, by the bytes before the leaves, or the offset of the first fault in them.
+// The root, read from the bytes before the leaves, or the offset of the first fault in them.
 pub enum Header {
     Good(Root),
     Bad(usize),
 }
 
-// The offset of the leaf that holds a place, or that of the first fault of the leaves.
+// The offset of the leaf that holds a place, or of the first fault in the leaves.
 pub enum Scanned {
     At(usize),
     Bad(usize),
@@ -41,7 +41,7 @@ pub enum Found {
     Bad(usize),
 }
 
-// A leaf of a map that opens, the cube that its place gives it, and the place after it.
+// A leaf of a map that opens, the cube at its place, and the place after it.
 pub struct Met {
     pub leaf: Leaf,
     pub cube: Cube,
@@ -53,7 +53,7 @@ pub const HEADER: usize = 19;
 
 pub const VERSION: u8 = 1;
 
-// Writes the root's low corner, at bytes 5 to 16.
+// Writes the root's low corner to bytes 5 to 16.
 fn put_corner(out: &mut [u8], root: Root)
     requires { ⌜ 17 ≤ length (now out) ⌝ }
     ensures { λ _. ⌜ now (out .exit) ≡ sets (now (out .entry)) 5 (cornerBytes root) ⌝ }

@@ -36,7 +36,7 @@ fn length_is_good(map: &[u8]) -> bool
     false
 }
 
-// The root by a map's bytes 5 to 18.
+// The root, from a map's bytes 5 to 18.
 fn root(map: &[u8]) -> Root
     requires { ⌜ headerSize ≤ length (now map) ⌝ }
     ensures { λ r. ⌜ r ≡ rootOf (now (map .entry)) ⌝ }
@@ -50,7 +50,7 @@ fn root(map: &[u8]) -> Root
     }
 }
 
-// The root of a map, or the fault in the bytes before its leaves.
+// The root of a map, or the first fault in the bytes before its leaves.
 fn read_header(map: &[u8]) -> Header
     ensures { λ r. ⌜ r ≡ onFirst (headerFault (now (map .entry))) BadHeader (GoodHeader (rootOf (now (map .entry)))) ⌝ }
 {
@@ -67,7 +67,7 @@ fn read_header(map: &[u8]) -> Header
     Header::Bad(5)
 }
 
-// The leaf whose three bytes stand at `at`.
+// The leaf in the three bytes from offset `at` on.
 pub fn leaf_at(map: &[u8], at: usize) -> Leaf
     requires { ⌜ at + 3 ≤ length (now map) ⌝ }
     ensures { λ r. ⌜ r ≡ leafIn (now (map .entry)) at ⌝ }
@@ -79,7 +79,7 @@ pub fn leaf_at(map: &[u8], at: usize) -> Leaf
     }
 }
 
-// 8 to the power n: how many smallest cubes a cube has that n levels are below.
+// 8 to the power n: the number of smallest cubes in a cube with n levels below it.
 pub fn eight_to(n: u8) -> u32
     requires { ⌜ n ≤ 10 ⌝ }
     ensures { λ r. ⌜ r ≡ 8 ^ n ⌝ }
@@ -100,7 +100,7 @@ fn level_is_good(d: u8, leaf: Leaf) -> bool
     false
 }
 
-// Face 0 unless class 2 or 3, and then one that is marked.
+// Face 0 unless class 2 or 3, and then a marked one.
 fn face_is_good(faces: &[u8], leaf: Leaf) -> bool
     requires { ⌜ length (now faces) ≡ 256 ⌝ }
     ensures { λ r. ⌜ r ≡ faceGood (marked (now (faces .entry))) leaf ⌝ }
@@ -112,7 +112,7 @@ fn face_is_good(faces: &[u8], leaf: Leaf) -> bool
     }
 }
 
-// The size of a cube that n levels are below, where it is in place, else 0.
+// The size of a cube with n levels below it if it can be at `place`, else 0.
 fn size_in_place(d: u8, place: u32, n: u8) -> u32
     requires { ⌜ d ≤ 10 ⌝ ∗ ⌜ place ≤ 2 ^ 30 ⌝ ∗ ⌜ n ≤ 10 ⌝ }
     ensures { λ r. ⌜ r ≡ cond (eqb (place % 8 ^ n) 0 && leb (place + 8 ^ n) (8 ^ d)) (8 ^ n) 0 ⌝ }
@@ -127,7 +127,7 @@ fn size_in_place(d: u8, place: u32, n: u8) -> u32
     0
 }
 
-// The size of a leaf that is good at a place, else 0; no size is 0.
+// The size of a leaf if it is good at `place`, else 0, which is the size of no leaf.
 fn good_size(faces: &[u8], d: u8, place: u32, leaf: Leaf) -> u32
     requires { ⌜ d ≤ 10 ⌝ ∗ ⌜ place ≤ 2 ^ 30 ⌝ ∗ ⌜ length (now faces) ≡ 256 ⌝ }
     ensures { λ r. ⌜ r ≡ cond (leafGood (marked (now (faces .entry))) d place leaf) (sizeOf d leaf) 0 ⌝ }
@@ -141,7 +141,7 @@ fn good_size(faces: &[u8], d: u8, place: u32, leaf: Leaf) -> u32
     0
 }
 
-// The last leaf whose place is not past m is the one that holds m.
+// The leaf that holds place m is the last one whose place is not past m.
 fn last_before(place: u32, m: u32, at: usize, found: usize) -> usize
     ensures { λ r. ⌜ r ≡ cond (leb place m) at found ⌝ }
 {
@@ -151,7 +151,7 @@ fn last_before(place: u32, m: u32, at: usize, found: usize) -> usize
     found
 }
 
-// The offset of the leaf that holds place m, or that of the first fault of the leaves. A terminal leaf may name the faces that are marked with 1.
+// The offset of the leaf that holds place m, or of the first fault in the leaves. A terminal leaf may name the faces that are marked with 1.
 fn scan(map: &[u8], faces: &[u8], d: u8, m: u32) -> Scanned
     requires { ⌜ d ≤ 10 ⌝ ∗ ⌜ headerSize ≤ length (now map) ⌝ ∗ ⌜ length (now map) % 3 ≡ 1 ⌝ ∗ ⌜ length (now faces) ≡ 256 ⌝ ∗ ⌜ m < 8 ^ d ⌝ }
     ensures { λ r. ⌜ r ≡ onFirst (leavesFault (marked (now (faces .entry))) d 0 headerSize (leavesOf (now (map .entry)))) Bad (At (headerSize + 3 * leafAt d m 0 (leavesOf (now (map .entry))))) ⌝ }
@@ -174,7 +174,7 @@ fn scan(map: &[u8], faces: &[u8], d: u8, m: u32) -> Scanned
     Scanned::At(found)
 }
 
-// The place of a point. One outside the root has none, and gets the first.
+// The place of a point, or the first place for a point outside the root, which has none.
 fn place_or_first(root: Root, p: Point) -> u32
     requires { ⌜ inLimits root ≡ true ⌝ }
     ensures { λ r. ⌜ r ≡ placeOrFirst root p ⌝ }
@@ -200,7 +200,7 @@ pub fn find(map: &[u8], faces: &[u8], p: Point) -> Found
     }
 }
 
-// The same of a map whose header is good. The leaves are tested wherever the point is, so one outside the root is looked for at the first place.
+// The same for a map whose header is good. The leaves are tested wherever the point is, so for one outside the root the scan looks for the first place.
 fn find_leaf(map: &[u8], faces: &[u8], root: Root, p: Point) -> Found
     requires { ⌜ length (now faces) ≡ 256 ⌝ ∗ ⌜ headerFault (now map) ≡ [] ⌝ ∗ ⌜ root ≡ rootOf (now map) ⌝ }
     ensures { λ r. ⌜ r ≡ foundOf (marked (now (faces .entry))) (now (map .entry)) p ⌝ }
@@ -215,7 +215,7 @@ fn find_leaf(map: &[u8], faces: &[u8], root: Root, p: Point) -> Found
     }
 }
 
-// Opens a map whose terminal leaves may name any face, and returns the number of its leaves. No leaf is asked for, so any point will do.
+// Opens a map whose terminal leaves may name any face, and returns the number of its leaves. The leaf that is found is not used, so any point will do.
 pub fn open(map: &[u8]) -> Reply
     ensures { λ r. ⌜ r ≡ openOf (now (map .entry)) ⌝ }
 {

@@ -20,7 +20,7 @@ pub fn leaf_count(map: &[u8]) -> usize
     (map.len() - crate::HEADER) / 3
 }
 
-// Leaf i, where its place is known: a walk starts with leaf 0 at place 0, and goes on with `next`.
+// Leaf i, given its place: a walk starts with leaf 0 at place 0, and continues at `next`.
 pub fn meet(map: &[u8], root: Root, i: usize, place: u32) -> Met
     requires { ⌜ ((named : ℕ → Bool) × (faultOf named (now map) ≡ [])) ⌝ ∗ ⌜ root ≡ rootOf (now map) ⌝ ∗ ⌜ i < length (leavesOf (now map)) ⌝ ∗ ⌜ place ≡ nthPlace (now map) i ⌝ }
     ensures { λ r. ⌜ r ≡ record { leaf = nthLeaf (now (map .entry)) i; cube = nthCube (now (map .entry)) i; next = nthPlace (now (map .entry)) (i + 1) } ⌝ }

@@ -1,4 +1,4 @@
--- What a map that building answers tells: its length is that of a map, it has room in the lent buffer, and its root is in limits.
+-- What follows if building is done: the sheet is good, no row refuses, and the map is at the start of the lent buffer.
 use mathlib.Core.Path.{_≡_, refl, ap, _∙_}
 use mathlib.Core.Bool.{Bool, true, false, true≢false}
 use mathlib.Core.List.{List, [], _++_}
@@ -39,7 +39,7 @@ module _ (n : ℕ) (out after : List ℕ) where
   no-other : {A : Type 0} (o : Outcome) → isDone (o .reply) ≡ false → done ≡ o → A
   no-other o h e = absurd (true≢false (ap (λ (o : Outcome). isDone (o .reply)) e ∙ h))
 
-  -- a list whose first would decide for another reply is empty
+  -- a list whose first element would give another reply is empty
   not-first : {A : Type 0} (firsts : List A) (f : A → Outcome) (rest : Outcome) → ((a : A) → isDone (f a .reply) ≡ false) → done ≡ onFirst firsts f rest → (firsts ≡ []) × (done ≡ rest)
   not-first firsts f rest h = none-first (λ (o : Outcome). done ≡ o) f rest firsts (λ a. no-other (f a) (h a))
 
@@ -50,7 +50,7 @@ module _ (n : ℕ) (out after : List ℕ) where
       (λ h. no-other (outcome (Refused (Short (length map))) out) refl (rw h at e))
       (λ h. (ap (λ (o : Outcome). countOf (o .reply)) (rw h at e), ltb-false (length out) (length map) h, ap (λ (o : Outcome). o .buffer) (rw h at e)))
 
-  -- the map of these records over this root stands at the start of the buffer
+  -- no row refuses, and the map of these records over this root is at the start of the buffer
   pub record Made (rs : List Record) (root : Root) : Type 0 where
     pub within : inLimits root ≡ true
     pub none : firstPast rs (rootCube root) ≡ []
@@ -75,7 +75,7 @@ module _ (n : ℕ) (out after : List ℕ) where
         (λ h. no-other (outcome (Refused Limits) out) refl (rw h at e))
 
 module _ (s : List ℕ) (root : Root) (out after : List ℕ) (n : ℕ) where
-  -- the sheet is good, and its map stands at the start of the buffer
+  -- the sheet is good, and its map is at the start of the buffer
   pub done-made : outcome (Done n) after ≡ buildOf s root out → (refusalOf (checkOf s) ≡ []) × Made n out after (recordsOf s) root
   unfolding buildOf
   done-made e =

@@ -39,7 +39,7 @@ module _ (s : List ℕ) (root : Root) (d : List ℕ) (r : Reply) (e : r ≡ chec
   unfolding buildOf
   good-sheet n o h k = rw (sym e ∙ h) k
 
--- ---- what the functions on the way learn
+-- ---- the number of leaves, and the room for them
 module _ (rs : List Record) (root : Root) where
   pub count-few : inLimits root ≡ true → (n : ℕ) → n ≡ length (leavesBelow rs (root .d) (rootCube root)) → n ≤ 2 ^ 30
   count-few within n count = rw count (leaves-few rs (root .d) (rootCube root) (limits-sizes root within .1))
@@ -66,12 +66,12 @@ module _ (rs : List Record) (root : Root) (d : List ℕ) where
     unfolding overRootOf
     over-root n h = rw (within, h)
 
-    -- ---- reply 11 does not come
+    -- ---- reply 11 is never given
     pub no-smaller : firstPast rs top ≡ [] → (o : Outcome) → o ≡ storedOf (builtMap rs root) d → o ≡ overRootOf rs root d
     unfolding overRootOf
     no-smaller none o e = rw (within, none, none-below rs (root .d) top none) e
 
-    -- ---- reply 8, and the map
+    -- ---- reply 8, or the map
     module _ (n : ℕ) (count : n ≡ length ls) where
       length-is : length (builtMap rs root) ≡ 19 + 3 * n
       unfolding builtMap

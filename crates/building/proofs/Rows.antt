@@ -1,4 +1,4 @@
--- Document 01's worked rows of the step room, worked out from the definitions.
+-- Document 01's worked rows of building the step room's map, computed from the definitions.
 use mathlib.Core.Path.{_≡_, refl, ap, _∙_}
 use mathlib.Core.Bool.{true}
 use mathlib.Core.List.{List, [], _∷_}
@@ -27,8 +27,8 @@ pub map-1 : builtMap stepRecords (stepRoot 1) ≡ stepMap
 unfolding builtMap mapOf headerOf cornerBytes bytesOf unsigned32 leavesBytes leafBytes
 map-1 = ap (mapOf (stepRoot 1)) depth-1
 
--- ---- what building answers
--- the root is in its limits, and no record passes the limit
+-- ---- what building returns
+-- the root is within limits, and no record passes 2^60 over any cube of the tree
 abbrev Plain : ℕ → Type 0
 Plain d = (inLimits (stepRoot d) ≡ true) × (firstPast stepRecords (rootCube (stepRoot d)) ≡ []) × (pastInTree stepRecords d (rootCube (stepRoot d)) ≡ [])
 

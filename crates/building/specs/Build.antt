@@ -1,4 +1,4 @@
--- Building a zone map: what is answered, and what the lent buffer holds afterwards.
+-- Building a zone map: the reply, and what the lent buffer holds afterwards.
 use Prim.Native.Nat.{ℕ}
 use mathlib.Core.Bool.{cond, not}
 use mathlib.Core.List.{List, _++_}
@@ -37,7 +37,7 @@ storedOf map out =
     cond (ltb (length out) (length map)) (outcome (Refused (Short (length map))) out)
     (outcome (Done (length map)) (map ++ drop (length map) out))
 
--- from reply 6 on, of the records of a good sheet
+-- from reply 6 on, for the records of a good sheet
 unfoldable pub overRootOf : List Record → Root → List ℕ → Outcome
 overRootOf rs root out =
     cond (not (inLimits root)) (outcome (Refused Limits) out)
@@ -45,6 +45,6 @@ overRootOf rs root out =
     (onFirst (pastInTree rs (root .d) (rootCube root)) (λ n. outcome (Refused (OverSmaller n)) out)
     (storedOf (builtMap rs root) out)))
 
--- building from the table of replies, row by row: first replies 1 to 5
+-- building by the table of replies, row by row: first replies 1 to 5
 unfoldable pub buildOf : List ℕ → Root → List ℕ → Outcome
 buildOf s root out = onFirst (refusalOf (checkOf s)) (λ why. outcome (Refused why) out) (overRootOf (recordsOf s) root out)

@@ -16,7 +16,7 @@ use cube::Root;
 use replies::Refusal;
 use replies::Reply;
 
-// Builds the zone map of a sheet over a root at the start of `out`; where it refuses, `out` stays as it is.
+// Builds the zone map of a sheet over a root at the start of `out`. A refusal leaves `out` unchanged.
 pub fn build(sheet: &[u8], x: i32, y: i32, z: i32, k: u8, d: u8, out: &mut [u8]) -> Reply
     ensures { λ r. ⌜ outcome r (now (out .exit)) ≡ buildOf (now (sheet .entry)) (record { x = x; y = y; z = z; k = k; d = d }) (now (out .entry)) ⌝ }
 {
@@ -31,7 +31,7 @@ pub fn build(sheet: &[u8], x: i32, y: i32, z: i32, k: u8, d: u8, out: &mut [u8])
     }
 }
 
-// Replies 6 and 7, and the rest. No reply 11 comes after them: what holds over the root holds over each smaller cube.
+// Replies 6 and 7, then the rest. Reply 11 cannot follow: if no record passes the limit over the root, none does over a smaller cube.
 fn over_root(sheet: &[u8], solid: u8, root: Root, out: &mut [u8]) -> Reply
     requires { ⌜ solid + 1 ≡ length (recordsOf (now sheet)) ⌝ }
     ensures { λ r. ⌜ outcome r (now (out .exit)) ≡ overRootOf (recordsOf (now (sheet .entry))) root (now (out .entry)) ⌝ }
@@ -52,7 +52,7 @@ fn over_root(sheet: &[u8], solid: u8, root: Root, out: &mut [u8]) -> Reply
     }
 }
 
-// Reply 8, and the map.
+// Reply 8, or the map.
 fn stored(sheet: &[u8], offsets: &[u16], solid: u8, root: Root, out: &mut [u8]) -> Reply
     requires { ⌜ Offsets (now offsets) (now sheet) ⌝ ∗ ⌜ solid + 1 ≡ length (recordsOf (now sheet)) ⌝ ∗ ⌜ inLimits root ≡ true ⌝ ∗ ⌜ firstPast (recordsOf (now sheet)) (rootCube root) ≡ [] ⌝ }
     ensures { λ r. ⌜ outcome r (now (out .exit)) ≡ storedOf (builtMap (recordsOf (now (sheet .entry))) root) (now (out .entry)) ⌝ }

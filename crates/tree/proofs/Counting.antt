@@ -1,4 +1,4 @@
--- Counting the leaves below a cube, as the recursion meets it: a cube by itself, then one child after the other.
+-- Counting the leaves below a cube, as the recursion does it: a cube that is not split is one leaf, otherwise one child after the other.
 use mathlib.Core.Path.{_≡_, sym, ap, _∙_}
 use mathlib.Core.Bool.{false}
 use mathlib.Core.List.{List}
@@ -21,7 +21,7 @@ module _ (rs : List Record) (left : ℕ) (q : Cube) where
   pub one-flat : isGray rs q ≡ false → 1 ≡ length (leavesBelow rs left q)
   one-flat h = sym (ap length (leaves-flat rs left q h))
 
--- k of the children were counted
+-- the loop's invariant: k of the children were counted
 pub record Counting (rs : List Record) (left : ℕ) (q : Cube) (total k : ℕ) : Type 0 where
   pub split : Split rs left q
   pub few : k ≤ 8

@@ -1,4 +1,4 @@
--- What a cube gives by itself and by its children; and where no record passes the limit over a cube, none does over a smaller one.
+-- What a cube and its children contribute; and if no record passes the limit over a cube, none does over a smaller one.
 use mathlib.Core.Path.{_≡_, refl, sym, ap, _∙_}
 use mathlib.Core.Bool.{true, false}
 use mathlib.Core.List.{List, [], _∷_, _++_}
@@ -57,7 +57,7 @@ module _ (rs : List Record) where
       unfolding pastInTree
       pasts-split = visit-gray (isGray rs) (firstPast rs) (firstPast rs) left q l g
 
-    -- a cube that is not
+    -- a cube that is not split
     pub leaves-end : left ≡ 0 → leavesBelow rs left q ≡ leafOf rs q ∷ []
     unfolding leavesBelow
     leaves-end e = visit-end (isGray rs) (λ q. []) (λ q. leafOf rs q ∷ []) left q e
@@ -82,7 +82,7 @@ module _ (rs : List Record) where
   pub child-none : (q : Cube) → firstPast rs q ≡ [] → (k : ℕ) → firstPast rs (childOf q k) ≡ []
   child-none q none k = none-smaller (childOf q k) q (child-inside q k) rs none
 
-  -- reply 11 cannot be given
+  -- so reply 11 is never given
   pub none-below : (left : ℕ) (q : Cube) → firstPast rs q ≡ [] → pastInTree rs left q ≡ []
   none-below zero q none = pasts-end zero q refl ∙ none
   none-below (suc left) q none =
@@ -104,7 +104,7 @@ module _ (rs : List Record) where
         let z : [] ≡ n ∷ [] = sym none ∙ past-first rs q q refl solid j e n k in
         let y : _≡_ {A = ℕ} 0 1 = ap length z in omega arith
 
-  -- its class tells whether it is split
+  -- its class says whether it is gray
   module _ (q : Cube) (state : State) (is : state ≡ solidState rs q) (class : ℕ) (of : class ≡ classOf state) where
     pub gray-is : class ≡ 4 → isGray rs q ≡ true
     unfolding isGray

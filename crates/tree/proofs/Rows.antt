@@ -1,4 +1,4 @@
--- Document 01's worked rows of the step room, worked out from the definitions.
+-- Document 01's worked rows of the leaves of a sheet, computed from the definitions.
 use mathlib.Core.Path.{_≡_, refl, sym, ap, _∙_}
 use mathlib.Core.Bool.{false}
 use mathlib.Core.List.{List, [], _∷_, _++_}
@@ -53,7 +53,7 @@ module _ (rs : List Record) (a : ℕ) where
   abbrev faced : List Record
   faced = rs ++ Face a ∷ []
 
-  -- its state is the face's own
+  -- the solid's state is the face's
   solid-face : (q : Cube) → solidState faced q ≡ faceState (faceBounds q (getD (entries q rs) a blank)) (length rs)
   unfolding solidState entryOf stateOf
   solid-face q =
@@ -62,7 +62,7 @@ module _ (rs : List Record) (a : ℕ) where
       ∙ ap (λ (e : Entry). e .state) (entry (entryOf q) rs (Face a) [] blank)
       ∙ ap (faceState (faceBounds q (getD (entries q rs) a blank))) (length-along (entryOf q) rs)
 
-  -- a face that is Single is so by its own number
+  -- if a face's state is Single, it names that face
   own-number : (i : Interval) (n f : ℕ) → faceState i n ≡ Single f → f ≡ n
   unfolding faceState
   own-number i n f e =

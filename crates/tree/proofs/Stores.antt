@@ -1,4 +1,4 @@
--- Writing the leaves below a cube, as the recursion meets it: a cube by itself, then one child after the other.
+-- Writing the leaves below a cube, as the recursion does it: a cube that is not split is one leaf, otherwise one child after the other.
 use mathlib.Core.Path.{_≡_, sym, ap, _∙_}
 use mathlib.Core.List.{List, [], _∷_}
 use Prim.Native.Nat.{ℕ, _+_, _-_, _*_, _≤_, _<_}
@@ -18,7 +18,7 @@ use Rattle.tree.specs.Solid.{solidState, leafBy, leafOf, leavesBelow}
 use Rattle.tree.proofs.Visits.{upto-none, upto-more, upto-length, upto-most}
 use Rattle.tree.proofs.Cubes.{kidLeaves, kid-leaves, leaves-split, Split}
 
--- the leaves ls, written into d from `at` on: the place after them, and the bytes
+-- the leaves ls were written into d from `at` on: r is the offset after them, and `out` has their bytes
 abbrev Put : List Leaf → List ℕ → ℕ → ℕ → List ℕ → Type 0
 Put ls d at r out = (r ≡ at + 3 * length ls) × (out ≡ sets d at (leavesBytes ls))
 
@@ -31,7 +31,7 @@ module _ (rs : List Record) (left : ℕ) (q : Cube) (one : leavesBelow rs left q
   unfolding leafOf leavesBytes leafBytes
   leaf-put state s d out r h = rw (one, ← s) (omega (arith, h .0), h .1)
 
--- ---- the children: k of them were written
+-- ---- the loop's invariant: k of the children were written
 pub record Writing (rs : List Record) (left : ℕ) (q : Cube) (d : List ℕ) (at : ℕ) (out : List ℕ) (next k : ℕ) : Type 0 where
   pub split : Split rs left q
   pub few : k ≤ 8

@@ -1,4 +1,4 @@
--- Laws of lists that are laid end to end, and of what the cubes of a tree give.
+-- Laws of lists one after the other, and of what the cubes of a tree contribute.
 use mathlib.Core.Path.{_≡_, refl, ap, _∙_}
 use mathlib.Core.Bool.{Bool, true, false, cond}
 use mathlib.Core.Logic.{⊎-elim}
@@ -12,7 +12,7 @@ use Rattle.cube.specs.declared.Cube.{Cube}
 use Rattle.cube.specs.Cubes.{childOf}
 use Rattle.tree.specs.Visit.{upto, visit}
 
--- ---- lists end to end
+-- ---- lists one after the other
 module _ {A : Type 0} (f : ℕ → List A) where
   pub upto-none : upto f 0 ≡ []
   unfolding upto
@@ -38,19 +38,19 @@ module _ {A : Type 0} (f : ℕ → List A) where
   upto-bound b zero h = omega arith
   upto-bound b (suc n) h = omega (arith, length-append (upto f n) (f n), upto-bound b n h, h n)
 
--- nothing, where each gives nothing
+-- nothing, if each list is empty
 pub upto-nothing : {A : Type 0} (f : ℕ → List A) → ((k : ℕ) → f k ≡ []) → (n : ℕ) → upto f n ≡ []
 unfolding upto
 upto-nothing f h zero = refl
 upto-nothing f h (suc n) = rw (upto-nothing f h n, h n)
 
--- ---- what the cubes give
+-- ---- what the cubes contribute
 cond-most : {A : Type 0} (b : Bool) (xs ys : List A) (m : ℕ) → length xs ≤ m → length ys ≤ m → length (cond b xs ys) ≤ m
 cond-most true xs ys m h k = h
 cond-most false xs ys m h k = k
 
 module _ {A : Type 0} (isGray : Cube → Bool) (split leaf : Cube → List A) where
-  -- what child k gives, where so many levels are left for the cube itself
+  -- what child k contributes, where the cube itself has `left` levels left
   abbrev pub kid : ℕ → Cube → ℕ → List A
   kid left q k = visit isGray split leaf (left - 1) (childOf q k)
 
@@ -68,7 +68,7 @@ module _ {A : Type 0} (isGray : Cube → Bool) (split leaf : Cube → List A) wh
   visit-gray zero q h e = let z : ⊥ = omega arith in absurd z
   visit-gray (suc left) q h e = rw (e, sub-one (suc left))
 
-  -- at most 8^left, where a split cube gives nothing and a leaf one thing
+  -- at most 8^left elements, if a split cube contributes none and a leaf one
   pub visit-most : ((q : Cube) → length (split q) ≡ 0) → ((q : Cube) → length (leaf q) ≡ 1) → (left : ℕ) (q : Cube) → length (visit isGray split leaf left q) ≤ 8 ^ left
   unfolding visit
   visit-most s l zero q = omega (arith, l q)

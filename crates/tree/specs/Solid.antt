@@ -27,10 +27,10 @@ leafBy level state = record { level = level; class = classOf state; face = faceO
 unfoldable pub leafOf : List Record → Cube → Leaf
 leafOf rs q = leafBy (q .level) (solidState rs q)
 
--- the leaves below a cube, with so many levels left
+-- the leaves below a cube with n levels left
 unfoldable pub leavesBelow : List Record → ℕ → Cube → List Leaf
 leavesBelow rs = visit (isGray rs) (λ q. []) (λ q. leafOf rs q ∷ [])
 
--- the first records whose bounds pass 2^60, of all cubes, a cube before its children
+-- the first record whose bounds pass 2^60, of each cube that has one, a cube before its children
 unfoldable pub pastInTree : List Record → ℕ → Cube → List ℕ
 pastInTree rs = visit (isGray rs) (firstPast rs) (firstPast rs)

@@ -1,17 +1,17 @@
--- The cubes of a tree, in order.
+-- The order in which the cubes of a tree are visited, and what each contributes.
 use Prim.Native.Nat.{ℕ, zero, suc}
 use mathlib.Core.Bool.{Bool, cond}
 use mathlib.Core.List.{List, [], _++_}
 use Rattle.cube.specs.declared.Cube.{Cube}
 use Rattle.cube.specs.Cubes.{childOf}
 
--- f 0, f 1 and so on, n of them, one after the other
+-- the n lists f 0, f 1 and so on, one after the other
 unfoldable pub upto : {A : Type 0} → (ℕ → List A) → ℕ → List A
 upto f zero = []
 upto f (suc n) = upto f n ++ f n
 
--- A cube that is gray at a level less than d is split into eight children; every other cube is a leaf. What a split cube gives comes before what its
--- children give, 0 to 7 in order; `left` is d minus the cube's level.
+-- A cube that is gray at a level less than d is split into eight children; every other cube is a leaf. What a split cube contributes comes before what its
+-- children do, 0 to 7 in order; `left` is d minus the cube's level.
 module _ {A : Type 0} (isGray : Cube → Bool) (split leaf : Cube → List A) where
   unfoldable pub visit : ℕ → Cube → List A
   visit zero q = leaf q

@@ -1,5 +1,5 @@
-// The leaves below a cube: counted, and written. Each function calls itself on the eight children of a gray cube, with one level fewer left.
-// Where no record passes the limit over a cube, none does over a smaller one, so the limit is tested for the first cube and no other.
+// The leaves below a cube, counted and written. `count` and `write` call themselves on the eight children of a gray cube, with one level fewer left.
+// If no record passes the limit over a cube, none does over a smaller one, so the caller tests the limit once, for the first cube.
 
 ghost use mathlib.Core.Path.{_≡_};
 ghost use Prim.Native.Nat.{_+_, _*_, _≤_};

@@ -1,4 +1,4 @@
-// The tree of cubes of a root, by itself: the solid's state over a cube, and the leaves below it, counted and written.
+// The tree of cubes: the solid's state over a cube, and the leaves below it, counted and written.
 
 mod leaves;
 

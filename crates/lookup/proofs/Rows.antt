@@ -40,7 +40,7 @@ none : firstPast stepRecords (rootCube (rootOf stepMap)) ≡ []
 unfolding firstPast pastFrom along onward entryOf faceBounds boundsOf across difference isWithin isSmall stateOf faceState joinedBy otherwiseOf rootCube rootOf unsignedAt signed32
 none = refl
 
--- so a point is out of the root, or its leaf answers
+-- so a point is outside the root, or its leaf decides
 step-lookup : (p : Point) → lookupOf stepSheet stepMap p ≡ cond (not (holdsPoint (rootCube (rootOf stepMap)) p)) (Refused NotInRoot) (Done (answerOf stepRecords (leafHolding stepMap p) p))
 unfolding lookupOf pairRefusal pointReply
 step-lookup p = rw (step-check, step-records, opens, none)

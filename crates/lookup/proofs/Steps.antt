@@ -1,4 +1,4 @@
--- The reply of looking up at each test, as the functions on the way learn it.
+-- The reply of looking up at each test: what the proofs of its functions need.
 use mathlib.Core.Path.{_≡_, sym, ap, _∙_}
 use mathlib.Core.Bool.{Bool, true, false, not}
 use mathlib.Core.List.{List, [], _∷_}
@@ -42,7 +42,7 @@ use Rattle.lookup.specs.declared.Reply.the-variants.{Done, Refused}
 use Rattle.lookup.specs.Lookup.{faceHolds, sideOf, answerOf, leafHolding, pointReply, lookupOf, answerNumber, numbered}
 use Rattle.lookup.specs.Inner.{Judgeable}
 
--- the point as its coordinates are handed to the call, read back from their bits
+-- the point's coordinates are passed as their bits, and read back unchanged
 pub handed : (s map : List ℕ) (x y z : ℤ) → SFits w32 x → SFits w32 y → SFits w32 z → (r : Reply) → r ≡ lookupOf s map (record { x = toZ w32 (ofZ w32 x); y = toZ w32 (ofZ w32 y); z = toZ w32 (ofZ w32 z) })
     → r ≡ lookupOf s map (record { x = x; y = y; z = z })
 handed s map x y z fx fy fz r e = rw (toZ-ofZ fx, toZ-ofZ fy, toZ-ofZ fz) at e
@@ -70,7 +70,7 @@ module _ (s map : List ℕ) (none : pairRefusal s map ≡ []) (p : Point) (pair 
       unfolding lookupOf
       at-limit r k = rw (none, ← root-is, within-limit) k
 
-  -- ---- reply 10: b is what the root's cube returned
+  -- ---- reply 10: b is what `holds` returned for the root's cube
   module _ (limit : firstPast (recordsOf s) (rootCube (pair .root)) ≡ []) (b : Bool) (held : b ≡ holdsPoint q p) where
     holds : b ≡ holdsPoint (rootCube (rootOf map)) p
     holds = held ∙ ap (λ (k : Cube). holdsPoint k p) (top ∙ root-is)
@@ -106,7 +106,7 @@ module _ (rs : List Record) (root : Root) (p : Point) (h : Judgeable rs root p) 
     pub face-past : {A : Type 0} (n : ℕ) → j ≡ Past n → A
     face-past n k = let z : [] ≡ n ∷ [] = sym none-there ∙ past-first rs (pointCube p) q is f j e n k in let y : _≡_ {A = ℕ} 0 1 = cc in absurd (omega arith)
 
--- ---- what a terminal leaf answers
+-- ---- the answer of a terminal leaf
 module _ (rs : List Record) (l : Leaf) (p : Point) where
   pub terminal : l .class ≡ 2 → (b : Bool) (a : Answer) → b ≡ faceHolds rs (l .face) p → a ≡ sideOf b → a ≡ answerOf rs l p
   unfolding answerOf
@@ -116,7 +116,7 @@ module _ (rs : List Record) (l : Leaf) (p : Point) where
   unfolding answerOf
   turned c b a e h = h ∙ ap (λ (k : Bool). sideOf (not k)) e ∙ rw c
 
--- ---- the answer by its number
+-- ---- the answer as a number
 module _ (r : Reply) where
   pub done-numbered : (a : Answer) (n : ℕ) → r ≡ Done a → n ≡ answerNumber a → Counts n ≡ numbered r
   done-numbered a n h e = rw h (ap Counts e)

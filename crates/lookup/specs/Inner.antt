@@ -1,4 +1,4 @@
--- What the functions on the way to an answer ask and tell. Only inner contracts cite this.
+-- What the functions that evaluate a leaf at a point require. Only inner contracts cite this.
 use mathlib.Core.Path.{_≡_}
 use mathlib.Core.Bool.{true}
 use mathlib.Core.List.{List, []}

@@ -1,4 +1,4 @@
--- Looking a position up: what is answered.
+-- Looking a position up: the reply, and the answer of a leaf.
 use Prim.Native.Nat.{ℕ}
 use mathlib.Core.Bool.{Bool, cond, not}
 use mathlib.Core.List.{List}
@@ -23,7 +23,7 @@ use Rattle.lookup.specs.declared.Answer.the-variants.{Outside, Inside, U
 use Rattle.lookup.specs.declared.Reply.{Reply}
 use Rattle.lookup.specs.declared.Reply.the-variants.{Done, Refused}
 
--- A face at a point. A point is a cube of side 0, over which bounds are exact: the face's operand there is at most 0 exactly where its state is In.
+-- A face at a point. A point is a cube of side 0, over which bounds are exact: the face's operand there is at most 0 exactly if its state is In.
 unfoldable pub faceHolds : List Record → ℕ → Point → Bool
 faceHolds rs f p = isIn (getD (entries (pointCube p) rs) f blank .state)
 
@@ -47,7 +47,7 @@ leafHolding map p = leafIn map (offsetAt map (placeOf (rootOf map) p))
 unfoldable pub pointReply : List Record → List ℕ → Point → Reply
 pointReply rs map p = cond (not (holdsPoint (rootCube (rootOf map)) p)) (Refused NotInRoot) (Done (answerOf rs (leafHolding map p) p))
 
--- looking up from the table of replies, row by row: 1 to 5 and 9, then 7, then 10
+-- looking up by the table of replies, row by row: 1 to 5 and 9, then 7, then 10
 unfoldable pub lookupOf : List ℕ → List ℕ → Point → Reply
 lookupOf s map p =
     onFirst (pairRefusal s map) Refused
@@ -60,7 +60,7 @@ answerNumber Outside = 0
 answerNumber Inside = 1
 answerNumber Undecided = 2
 
--- the reply with its answer by number
+-- the reply with its answer as a number
 abbrev pub numbered : Reply → Counted
 numbered (Done answer) = Counts (answerNumber answer)
 numbered (Refused why) = Refuses why

@@ -13,7 +13,7 @@ pub enum Answer {
     Undecided,
 }
 
-// Where the position lies, or why that is refused.
+// Where the position lies, or why the call refuses.
 pub enum Reply {
     Done(Answer),
     Refused(Refusal),

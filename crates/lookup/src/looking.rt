@@ -35,7 +35,7 @@ pub fn lookup(sheet: &[u8], map: &[u8], x: i32, y: i32, z: i32) -> Reply
     }
 }
 
-// Reply 7, and the rest.
+// Reply 7, then the rest.
 fn over_root(sheet: &[u8], map: &[u8], pair: Pair, p: Point) -> Reply
     requires { ⌜ pairRefusal (now sheet) (now map) ≡ [] ⌝ ∗ ⌜ pair ≡ pairOf (now sheet) (now map) p ⌝ }
     ensures { λ r. ⌜ r ≡ lookupOf (now (sheet .entry)) (now (map .entry)) p ⌝ }
@@ -53,7 +53,7 @@ fn over_root(sheet: &[u8], map: &[u8], pair: Pair, p: Point) -> Reply
     }
 }
 
-// Reply 10, and the answer of the leaf that holds the point.
+// Reply 10, or the answer of the leaf that holds the point.
 fn at_point(sheet: &[u8], offsets: &[u16], map: &[u8], pair: Pair, p: Point) -> Reply
     requires { ⌜ Offsets (now offsets) (now sheet) ⌝ ∗ ⌜ pairRefusal (now sheet) (now map) ≡ [] ⌝ ∗ ⌜ pair ≡ pairOf (now sheet) (now map) p ⌝ ∗ ⌜ firstPast (recordsOf (now sheet)) (rootCube (pair .root)) ≡ [] ⌝ }
     ensures { λ r. ⌜ r ≡ pointReply (recordsOf (now (sheet .entry))) (now (map .entry)) p ⌝ }
@@ -89,7 +89,7 @@ fn side(holds: bool) -> Answer
     Answer::Outside
 }
 
-// Whether a point satisfies face f, by the bounds over the point alone. No record's bounds pass the limit there, as they lie in those over the root.
+// Whether a point satisfies face f, by the bounds over the point alone. These lie in the bounds over the root, so the second arm is never reached.
 fn face_holds(sheet: &[u8], offsets: &[u16], count: usize, root: Root, f: u8, p: Point) -> bool
     requires { ⌜ Offsets (now offsets) (now sheet) ⌝ ∗ ⌜ count ≡ length (recordsOf (now sheet)) ⌝ ∗ ⌜ Judgeable (recordsOf (now sheet)) root p ⌝ }
     ensures { λ r. ⌜ r ≡ faceHolds (recordsOf (now (sheet .entry))) f p ⌝ }

@@ -1,4 +1,4 @@
-// Each answer by its number.
+// Document 01's number for each answer.
 
 ghost use mathlib.Core.Path.{_≡_};
 ghost use Rattle.lookup.specs.Lookup.{answerNumber, numbered};

@@ -1,4 +1,4 @@
--- What opening a sheet with a map returns at each test, and what a pair that was opened tells.
+-- What opening a map with its sheet returns at each test, and what follows from its result.
 use mathlib.Core.Path.{_≡_, refl, sym, ap, _∙_}
 use mathlib.Core.Bool.{true}
 use mathlib.Core.List.{List, [], _∷_}
@@ -67,7 +67,7 @@ module _ (s : List ℕ) (good : refusalOf (checkOf s) ≡ []) (marks : List ℕ)
   unfolding openedOf pairRefusal
   map-refused at h = rw (good, found-bad (hasFace (recordsOf s)) map p o found at h (λ n. Map n ∷ []) [])
 
--- ---- what it tells
+-- ---- what follows from its result
 pub shut-clash : (why : Refusal) (pair : Pair) → Shut why ≡ Good pair → ⊥
 shut-clash why pair e = let z : _≡_ {A = ℕ} 0 1 = cc in omega arith
 

@@ -1,4 +1,4 @@
--- A zone sheet with a zone map: replies 1 to 5 and 9, and what the two tell where no row refuses them.
+-- A zone sheet with a zone map: replies 1 to 5 and 9, and what is known of the two if no row refuses them.
 use mathlib.Core.List.{List, [], _∷_}
 use Prim.Native.Nat.{ℕ}
 use lib.ListN.{length}
@@ -15,7 +15,7 @@ use Rattle.pair.specs.declared.Pair.{Pair}
 use Rattle.pair.specs.declared.Opened.{Opened}
 use Rattle.pair.specs.declared.Opened.the-variants.{Good, Refused}
 
--- the first refusal, where there is one: rows 1 to 5 of the sheet, then row 9: the map doesn't open, or a terminal leaf names a record that isn't a face of
+-- the first refusal, if there is one: rows 1 to 5 for the sheet, then row 9: the map doesn't open, or a terminal leaf names a record that isn't a face of
 -- the sheet
 unfoldable pub pairRefusal : List ℕ → List ℕ → List Refusal
 pairRefusal s map =
@@ -23,7 +23,7 @@ pairRefusal s map =
     (onFirst (faultOf (hasFace (recordsOf s)) map) (λ at. Map at ∷ [])
     [])
 
--- the number of records, the root, and the offset of the leaf that holds a point; of a point outside the root, that of the first leaf
+-- the number of records, the root, and the offset of the leaf that holds a point, or of the first leaf if the point is outside the root
 abbrev pub pairOf : List ℕ → List ℕ → Point → Pair
 pairOf s map p = record { count = length (recordsOf s); root = rootOf map; at = offsetAt map (placeOrFirst (rootOf map) p) }
 

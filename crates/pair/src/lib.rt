@@ -1,4 +1,4 @@
-// A zone sheet with a zone map: replies 1 to 5 and 9, which every call begins with that takes both.
+// A zone sheet with a zone map: replies 1 to 5 and 9, with which every call that takes both begins.
 
 mod opening;
 
@@ -6,7 +6,7 @@ use cube::Root;
 pub use opening::open;
 use replies::Refusal;
 
-// What a good sheet and a map that opens with it tell: the number of records, the root, and the offset of the leaf that holds a point.
+// What is known of a good sheet and a map that opens with it: the number of records, the root, and the offset of the leaf that holds a point.
 pub struct Pair {
     pub count: usize,
     pub root: Root,

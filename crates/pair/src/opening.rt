@@ -1,4 +1,4 @@
-// The sheet is checked, then the map is opened with the sheet's faces.
+// Opening a map with its sheet: the sheet is checked, then the map is opened with the sheet's faces.
 
 ghost use mathlib.Core.Path.{_≡_};
 ghost use mathlib.Core.List.{[]};
@@ -28,7 +28,7 @@ pub fn open(sheet: &[u8], map: &[u8], p: Point) -> Opened
     }
 }
 
-// The same with a sheet that is good.
+// The same for a good sheet.
 fn open_map(sheet: &[u8], count: usize, map: &[u8], p: Point) -> Opened
     requires { ⌜ refusalOf (checkOf (now sheet)) ≡ [] ⌝ ∗ ⌜ count ≡ length (recordsOf (now sheet)) ⌝ }
     ensures { λ r. ⌜ r ≡ openedOf (now (sheet .entry)) (now (map .entry)) p ⌝ }

@@ -1,4 +1,4 @@
--- The leaves that building enumerates run from the root's first place to its last: each is good at its own place, and is the leaf of the cube there. So a built map
+-- The leaves of a built map run from the root's first place to its last: each is good at its own place, and is the leaf of the cube there. So a built map
 -- opens, with these leaves.
 use mathlib.Core.Path.{_≡_, refl, sym, ap, _∙_}
 use mathlib.Core.Bool.{Bool, true, false, _||_, not}
@@ -65,7 +65,7 @@ module _ (rs : List Record) (root : Root) (within : inLimits root ≡ true) wher
   abbrev d : ℕ
   d = root .d
 
-  -- what building puts at a place: a leaf that is good there, and is the leaf of the cube there
+  -- what building writes for a place: a leaf that is good there, and is the leaf of the cube there
   abbrev pub BuiltAt : ℕ → Leaf → Type 0
   BuiltAt p l = (leafGood (hasFace rs) d p l ≡ true) × (l ≡ leafOf rs (cubeAt root p (l .level)))
 
@@ -122,7 +122,7 @@ module _ (rs : List Record) (root : Root) (within : inLimits root ≡ true) wher
   all-few : length all ≤ 2 ^ 30
   all-few = leaves-few rs d (rootCube root) (limits-sizes root within .1)
 
-  -- THE ROUND TRIP: a built map opens, and has the root and the leaves that it was built of
+  -- THE ROUND TRIP: a built map opens, and has the root and the leaves that it was built from
   pub built-opens : faultOf (hasFace rs) (builtMap rs root) ≡ []
   unfolding builtMap
   built-opens = map-opens (hasFace rs) root all within all-few (run-map BuiltAt d (Fine (hasFace rs) d) (λ p l t. t .0) 0 (8 ^ d) all root-run)

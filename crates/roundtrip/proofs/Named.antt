@@ -22,7 +22,7 @@ use Rattle.colour.specs.Entries.{Entry, blank, entryOf, entries}
 use Rattle.tree.specs.Solid.{solidState, leafBy}
 
 module _ (rs : List Record) where
-  -- the face that a state names, where it names one, is a face of the sheet
+  -- the face that a state names, if it names one, is a face of the sheet
   abbrev names : State → Bool
   names Out = true
   names In = true

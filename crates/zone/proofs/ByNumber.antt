@@ -1,4 +1,4 @@
--- The reply by number, where the call behind it returned so.
+-- The reply by number, from what the inner call returned.
 use mathlib.Core.Path.{_≡_, refl, ap, _∙_}
 use mathlib.Core.List.{List}
 use Prim.Native.Nat.{ℕ}
@@ -32,7 +32,7 @@ pub done-code : (r : Reply) → byNumber r .code ≡ 0 → r ≡ Done (byNumber 
 done-code (Done n) e = refl
 done-code (Refused why) e = absurd (no-code-0 why e)
 
--- ---- each call: r is what the call behind it returned, and told is r by number
+-- ---- each call: r is what the inner call returned, and `told` is r by number
 module _ (r : Reply) (told : ZoneReply) (t : told ≡ byNumber r) where
   pub checks : (s : List ℕ) → r ≡ checkOf s → told ≡ zoneCheckOf s
   unfolding zoneCheckOf
@@ -42,7 +42,7 @@ module _ (r : Reply) (told : ZoneReply) (t : told ≡ byNumber r) where
   unfolding zoneOpenOf
   opens map e = t ∙ ap byNumber e
 
--- x, y and z are handed on by their bits
+-- x, y and z are passed on as their bits
 module _ (x y z : ℤ) (fx : SFits w32 x) (fy : SFits w32 y) (fz : SFits w32 z) where
   pub builds : (r : Reply) (told : ZoneReply) → told ≡ byNumber r → (s : List ℕ) (k d : ℕ) (out after : List ℕ)
       → outcome r after ≡ buildOf s (record { x = toZ w32 (ofZ w32 x); y = toZ w32 (ofZ w32 y); z = toZ w32 (ofZ w32 z); k = k; d = d }) out

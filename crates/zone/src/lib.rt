@@ -1,4 +1,4 @@
-// The library's face to C and Rust: each call has the contract of the proved call behind it.
+// The library's interface for C and Rust: each call has the contract of its inner call, with the reply as a code and a number.
 
 ghost use mathlib.Core.Path.{_≡_};
 ghost use Rattle.zone.specs.Replies.{byNumber, zoneCheckOf, zoneOutcome, zoneBuildOf, zoneOpenOf, zoneLookupOf};
@@ -34,7 +34,7 @@ pub extern "C" fn zone_check(sheet: &[u8]) -> ZoneReply
     by_number(sheet::check(sheet))
 }
 
-// Builds the zone map of a sheet over a root at the start of `out`, and returns its length. Where it refuses, `out` stays as it is.
+// Builds the zone map of a sheet over a root at the start of `out`, and returns its length. A refusal leaves `out` unchanged.
 #[no_mangle]
 pub extern "C" fn zone_build(
     sheet: &[u8],
@@ -50,7 +50,7 @@ pub extern "C" fn zone_build(
     by_number(building::build(sheet, x, y, z, k, d, out))
 }
 
-// Opens a zone map, whatever sheet it is of, and returns the number of its leaves.
+// Opens a zone map, whatever its sheet is, and returns the number of its leaves.
 #[no_mangle]
 pub extern "C" fn zone_open(map: &[u8]) -> ZoneReply
     ensures { λ r. ⌜ r ≡ zoneOpenOf (now (map .entry)) ⌝ }

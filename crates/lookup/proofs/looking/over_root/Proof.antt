@@ -1,4 +1,4 @@
--- `lookup::looking::over_root` meets its contract: the limit over the root comes before the point.
+-- `lookup::looking::over_root` meets its contract: the limit over the root is tested before the point.
 use Rattle.pair.proofs.Openings.{pair-count, pair-small, pair-near}
 use Rattle.lookup.proofs.Steps.{over-limit, at-limit}
 use Rattle.colour.proofs.Told.{known-none}

@@ -1,5 +1,5 @@
-// Says what a zone sheet holds: reads a sheet from standard input and writes one line per record, as `3 at 13: difference 0 2` for record 3 at
-// byte 13 of the sheet, or `refused code number`.
+// Says what a zone sheet holds: reads a sheet from standard input and writes one line per record, such as `3 at 13: difference 0 2` for record 3
+// at byte 13 of the sheet, or `refused code number`.
 
 fn main() {
     // A sheet whose length agrees has at most 65,537 bytes. One byte more than that disagrees, however many follow.

@@ -55,7 +55,7 @@ face-among [] f e = absurd (true≢false (sym e))
 face-among (r ∷ rs) zero e = omega arith
 face-among (r ∷ rs) (suc f) e = omega (arith, face-among rs f e)
 
--- ---- over one number a face is In or Out
+-- ---- over an interval of one number a face is In or Out
 point-state : (v : ℤ) (f : ℕ) → faceState (only v) f ≡ cond (leZ v (pos 0)) In Out
 unfolding faceState
 point-state v f = by-test (leZ v (pos 0)) (λ t. rw t) (λ t. rw (t, T-true (ltZ (pos 0) v) (leZ-above v (pos 0) t .lt)))
@@ -68,7 +68,7 @@ told face v f b h =
     by-test (leZ v (pos 0)) (λ t. rw (e, t) (sym (rw (e, t) at h))) (λ t. rw (e, t) (sym (rw (e, t) at h)))
 
 module _ (rs : List Record) (f : ℕ) (p : Point) (e : hasFace rs f ≡ true) where
-  -- at the point, the state of the face is that of one number
+  -- at the point, the face's state is its state over an interval of one number
   state-is : (v : ℤ) × (getD (entries (pointCube p) rs) f blank .state ≡ faceState (only v) f)
   unfolding entryOf stateOf hasFace
   state-is =

@@ -1,5 +1,5 @@
--- What zone_lookup returns: code 0 exactly where no row of the table refuses; the leaf that holds the position decides; and in a truthful map inside or outside is
--- the truth of the solid there.
+-- What zone_lookup returns: code 0 exactly if no row of the table refuses; the leaf that holds the position decides; and in a truthful map inside or outside is
+-- true of the solid there.
 use mathlib.Core.Path.{_≡_, refl, sym, ap, _∙_}
 use mathlib.Core.Bool.{Bool, true, false, cond, not}
 use mathlib.Core.List.{List, [], _∷_}
@@ -59,7 +59,7 @@ pub lookup-refused : (sheet : List ℕ) → (zoneCheckOf sheet .code ≡ 0 → �
 unfolding zoneLookupOf lookupOf pairRefusal zoneCheckOf
 lookup-refused sheet h map p = bad-sheet (checkOf sheet) h _ _
 
--- ---- code 0 exactly where no row refuses
+-- ---- code 0 exactly if no row refuses
 abbrev Answers : Reply → Type 0
 Answers r = byNumber (numbered r) .code ≡ 0
 
@@ -142,7 +142,7 @@ module _ (sheet map : List ℕ) (p : Point) where
   }
 
 -- ---- the truth
--- 1 and 0 are two sides, and 2 is neither
+-- 1 and 0 are different sides, and 2 is neither
 same-side : (a b : Bool) → reply 0 (cond a 1 0) ≡ reply 0 (cond b 1 0) → a ≡ b
 same-side true true e = refl
 same-side true false e = let z : _≡_ {A = ℕ} 1 0 = ap (λ (r : ZoneReply). r .number) e in absurd (omega arith)

@@ -75,7 +75,7 @@ module _ (sheet map : List ℕ) (b : Built sheet map) where
   pub opens-with : Opens (hasFace rs) map
   opens-with = opens-told (hasFace rs) map opens
 
-  -- a lookup in it is refused for a position that is not in the root, and for nothing else
+  -- a lookup in it is refused only if the position is not in the root
   pub can-look-up : (p : Point) → InRoot (rootOf map) p → CanLookUp sheet map p
   can-look-up p inside = record {
     good = check-good sheet (told .0 .0) (told .0 .1);

@@ -1,4 +1,4 @@
--- What it is that a map opens: the first fault is none exactly where the length, the version, the root and every leaf at its own place are good.
+-- What it means that a map opens: it has no fault exactly if the length, the version, the root and every leaf at its own place are good.
 use mathlib.Core.Path.{_≡_, refl, ap, _∙_}
 use mathlib.Core.Bool.{Bool, true, false, _&&_, and-eq-true-iff}
 use mathlib.Core.List.{List, [], _∷_}
@@ -77,7 +77,7 @@ module _ (named : ℕ → Bool) (map : List ℕ) (i : ℕ) where
       let l : Leaf = nthLeaf map i in
       rw (level-good d l (g .level) (g .class) (g .gray), face-good d l named (g .terminal) (g .complement) (g .other), place-good d l (nthPlace map i) (g .multiple) (g .end))
 
--- ---- the length, which is that of so many leaves
+-- ---- the length, and the number of leaves
 module _ (map : List ℕ) where
   counted : length (leavesOf map) ≡ (length map - 19) / 3
   counted = leaves-count map ((length map - 19) / 3) 19
@@ -157,7 +157,7 @@ module _ (named : ℕ → Bool) (map : List ℕ) where
     at-end = at-end;
   }
 
--- a map that opens with some faces opens with any
+-- a map that opens when only some faces may be named opens when any may be
 any-leaf : (named : ℕ → Bool) (map : List ℕ) (i : ℕ) → GoodLeaf named map i → GoodLeaf anyFace map i
 any-leaf named map i g = record {
   level = g .level;
@@ -186,7 +186,7 @@ module _ (map : List ℕ) where
   unfolding openOf
   no-fault n e = none-first (λ (r : Reply). r ≡ Done n) (λ at. Refused (Map at)) _ (faultOf anyFace map) (λ at c. let z : _≡_ {A = ℕ} 0 1 = cc in omega arith) e .0
 
-  -- the map that zone_open opens has no fault
+  -- a map that zone_open opens has no fault
   pub opened-fault : zoneOpenOf map .code ≡ 0 → faultOf anyFace map ≡ []
   unfolding zoneOpenOf
   opened-fault e = no-fault _ (done-code (openOf map) e)

@@ -1,4 +1,4 @@
--- What zone_build returns: code 0 exactly where no row of the table refuses, and where one does the lent buffer is as it was.
+-- What zone_build returns: code 0 exactly if no row of the table refuses, and if one does the lent buffer is unchanged.
 use mathlib.Core.Path.{_≡_, refl, sym, ap}
 use mathlib.Core.List.{List}
 use Prim.Native.Nat.{ℕ}
@@ -33,7 +33,7 @@ use Rattle.demands.specs.Terms.{ExactlyOne, DoneWhere, GoodSheet, CanBui
 use Rattle.demands.specs.Table.{BuildRows}
 use Rattle.demands.proofs.Sheets.{check-good, good-check}
 
--- ---- what an equation lets in is one
+-- ---- an equation accepts exactly one outcome
 pub one-reply : (told : ZoneReply) → ExactlyOne (λ (r : ZoneReply). r ≡ told)
 one-reply told = record { one = told; fits = refl; no-second = λ r e. e }
 
@@ -44,7 +44,7 @@ one-outcome told = record {
   no-second = λ o e i. (e i .reply, e i .buffer);
 }
 
--- ---- where the code is not 0, the buffer is as it was
+-- ---- if the code is not 0, the buffer is unchanged
 module _ (before : List ℕ) where
   abbrev Kept : Outcome → Type 0
   Kept o = (byNumber (o .reply) .code ≡ 0 → ⊥) → o .buffer ≡ before
@@ -79,8 +79,8 @@ pub build-refused : (sheet : List ℕ) → (zoneCheckOf sheet .code ≡ 0 → �
 unfolding zoneBuildOf buildOf zoneCheckOf
 build-refused sheet h root before = bad-sheet (checkOf sheet) h before (overRootOf (recordsOf sheet) root before)
 
--- ---- done exactly where all is fine
--- code 0: the sheet is good, and its map stands at the start of the buffer
+-- ---- code 0 exactly if no row refuses
+-- code 0: the sheet is good, and its map is at the start of the buffer
 pub made : (sheet : List ℕ) (root : Root) (before : List ℕ) → zoneBuildOf sheet root before .reply .code ≡ 0
     → ((n : ℕ) × (checkOf sheet ≡ Done n)) × Made (zoneBuildOf sheet root before .reply .number) before (zoneBuildOf sheet root before .buffer) (recordsOf sheet) root
 unfolding zoneBuildOf

@@ -1,5 +1,5 @@
--- What a contract of that form gives of a run: a call whose arguments are as their types say returns, its machine value stands for an answer, and the fact holds
--- of it. In every model of the logic.
+-- What a `Contract` (specs/Contract) says of a run, in every model of the logic: a call whose arguments are as their types say returns, its machine value
+-- stands for an answer, and the fact holds of it.
 use Prim.Native.Nat.{ℕ}
 use mathlib.Core.Path.{_≡_}
 use mathlib.Core.Logic.{∥∥₁-prop, ∥∥₁-elim, ∥∥₁-map}
@@ -27,11 +27,11 @@ module _ (T : Ended) (source : Source T) (code : Routine) (says : Fact T) (k : C
     abbrev pub Answer : Type 0
     Answer = Res (T .signature) (x .0)
 
-    -- the last values behind what was lent
+    -- the final values behind what was lent
     abbrev pub Last : Type 0
     Last = Lasts T (x .0) (x .3)
 
-    -- the fact, of the arguments, of the answer and of the last values
+    -- the fact, of the arguments, of the answer and of the final values
     abbrev pub Said : Answer → Last → Type 0
     Said r ws = factOf (x .0) Answer (T .signature .params) (T .kept) (says (x .0)) (x .3) (atExit T (x .0) (x .3) ws) r
 
@@ -46,7 +46,7 @@ module _ (T : Ended) (source : Source T) (code : Routine) (says : Fact T) (k : C
     abbrev pub Entered : SProp 𝓤
     Entered = onEntry 𝓤 H (𝓖 .A) (T .signature) (x .0) (x .1) (x .3) (x .4)
 
-    -- beside a frame, v stands for r, and ws are the last values
+    -- next to a frame, v stands for r, and ws are the final values
     abbrev pub Left : Val → Answer → Last → SProp 𝓤 → SProp 𝓤
     Left v r ws F = sep 𝓤 (Behind ws) (sep 𝓤 (Stands v r) F)
 
@@ -56,7 +56,7 @@ module _ (T : Ended) (source : Source T) (code : Routine) (says : Fact T) (k : C
     abbrev post : Val → Answer → SProp 𝓤
     post v r = sep 𝓤 (Stands v r) (ex 𝓤 (end r))
 
-    -- what is left after the call has the last values, and the fact of them
+    -- what is left after the call has the final values, and the fact holds of them
     ends : (σ : Memory) (v : Val) (F : SProp 𝓤) (r : Answer) → Satisfies 𝓤 H 𝓜 σ (sep 𝓤 (post v r) F) → ∥ ((ws : Last) × Said r ws × Satisfies 𝓤 H 𝓜 σ (Left v r ws F)) ∥₁
     ends σ v F r s =
         let B : SProp 𝓤 = Stands v r in

@@ -29,7 +29,7 @@ use Rattle.zone.specs.Replies.{reply, byNumber, zoneOutcome, outcomeByNumber, z
 use Rattle.demands.specs.Rows.{AllHold, elevenRows}
 use Rattle.demands.proofs.Outcomes.{made}
 
--- a map of n bytes is stored in a buffer that has room for it, and refused by 8 where there is none
+-- a map of n bytes is stored in a buffer that has room for it, and refused by 8 if there is none
 module _ (sheet : List ℕ) (root : Root) (map out : List ℕ) (n : ℕ) (e : buildOf sheet root out ≡ storedOf map out) (size : length map ≡ n) where
   pub stores : n ≤ length out → zoneBuildOf sheet root out ≡ zoneOutcome (reply 0 n) (map ++ drop n out)
   unfolding zoneBuildOf storedOf
@@ -39,12 +39,12 @@ module _ (sheet : List ℕ) (root : Root) (map out : List ℕ) (n : ℕ) (e : bu
   unfolding zoneBuildOf storedOf
   refuses h = ap outcomeByNumber e ∙ rw (size, lt-ltb (length out) n h)
 
--- a lookup by number
+-- the reply of a lookup by number
 looks-up : (p : Point) (r : Reply) → lookupOf stepSheet stepMap p ≡ r → zoneLookupOf stepSheet stepMap p ≡ byNumber (numbered r)
 unfolding zoneLookupOf
 looks-up p r e = ap (λ (q : Reply). byNumber (numbered q)) e
 
--- a map of one leaf, where building returns code 0
+-- a map of one leaf, if building returns code 0
 module _ (sheet : List ℕ) (root : Root) (out : List ℕ) (e : zoneBuildOf sheet root out .reply .code ≡ 0) (l : Leaf) (one : leavesBelow (recordsOf sheet) (root .d) (rootCube root) ≡ l ∷ []) where
   one-leaf : zoneBuildOf sheet root out ≡ zoneOutcome (reply 0 22) (mapOf root (l ∷ []) ++ drop 22 out)
   unfolding builtMap

@@ -1,4 +1,4 @@
--- What zone_check tells of a sheet: code 0 exactly where rows 1 to 5 let it pass, and otherwise the first of them that does not.
+-- What zone_check returns for a sheet: code 0 exactly if rows 1 to 5 accept it, and otherwise the reply of the first of them that does not.
 use mathlib.Core.Path.{_≡_, refl, _∙_}
 use mathlib.Core.Bool.{true, false}
 use mathlib.Core.List.{List, []}

@@ -21,7 +21,7 @@ pub solid-says : (rs : List Record) (q : Cube) (l : Leaf) → l .class ≡ class
 unfolding solidState inSolid
 solid-says rs q l class face = record { state = solidState rs q; class = class; face = face; sound = λ p closed. states-sound q p closed rs (length rs - 1) }
 
--- a built map has such leaves only
+-- a built map has only such leaves
 pub truthful : (sheet map : List ℕ) → Built sheet map → Truthful sheet map
 unfolding leafOf
 truthful sheet map b =

@@ -1,5 +1,5 @@
--- Wrong programs that the contract of `zone_build` shuts out, each on the step room at depth 1: what they would return is not what the contract says. And why demand 3
--- needs demand 2 beside it, and what `Truthful` cannot do without.
+-- Wrong programs that the contract of `zone_build` rules out, each on the step room at depth 1: what they would return is not what the contract says. Also why
+-- demand 3 needs demand 2 as well, and what `Truthful` cannot do without.
 use mathlib.Core.Path.{_≡_, refl, sym, ap, _∙_}
 use mathlib.Core.List.{List, [], _∷_, _++_}
 use Prim.Native.Nat.{ℕ, _-_, _<_}
@@ -75,7 +75,7 @@ module _ (r : ZoneReply) (out : List ℕ) (e : zoneOutcome r out ≡ zoneBuildOf
   not-written = ap (λ (o : ZoneOutcome). o .buffer) told-short
 
 -- ---- demand 3 alone
--- A gray leaf agrees with every sheet at every point, so a program that calls cubes gray keeps demand 3. Only the equation of the map shuts it out, as above.
+-- A gray leaf agrees with every sheet at every point, so a program that calls cubes gray keeps demand 3. Only the equation of the map rules it out, as above.
 gray-agrees : (rs : List Record) (leaf : Leaf) (p : FractionalPoint) → leaf .class ≡ 4 → Agrees rs leaf p
 gray-agrees rs leaf p e = record {
   white = λ h. absurd (omega arith);

@@ -1,5 +1,5 @@
--- The leaves of a map that opens tile its root: each whole point is in one leaf, high planes left out, and each point of the closed root is in the closed cube of some
--- leaf.
+-- The leaves of a map that opens tile its root: each whole point is in one leaf, high planes left out, and each point of the closed root is in the closed cube
+-- of some leaf.
 use mathlib.Core.Path.{_≡_}
 use mathlib.Core.Bool.{Bool}
 use mathlib.Core.List.{List, []}

@@ -1,5 +1,5 @@
--- Demand 3, however a map was made: a leaf that says of its cube what a sound state says agrees with the sheet at every point of the closed cube. So a map that opens
--- and has only such leaves is truthful. In two truthful maps of one sheet no white leaf touches a black one.
+-- Demand 3, however a map was made: a leaf that says of its cube what a sound state says agrees with the sheet at every point of the closed cube. So a map that
+-- opens and has only such leaves is truthful. In two truthful maps of one sheet no white leaf touches a black one.
 use mathlib.Core.Path.{_≡_, sym, ap, _∙_}
 use mathlib.Core.Bool.{true, true≢false}
 use mathlib.Core.List.{List}

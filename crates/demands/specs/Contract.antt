@@ -1,4 +1,4 @@
--- What it is for a call to have one fact for its contract, whole.
+-- What it means that the whole contract of a call is one fact.
 use Prim.Native.Nat.{ℕ}
 use mathlib.Core.Path.{_≡_}
 use mathlib.Core.List.{List, [], _∷_}
@@ -21,7 +21,7 @@ use denote.Triple.End.{Kepts, Outs}
 use denote.Triple.Entry.{Res}
 use denote.Triple.Spec.{Meets}
 
--- a parameter, as a fact reads it: its value or, where the call may write behind it, its value at entry and at exit
+-- a parameter, as a fact reads it: its value or, if the call may write behind it, its value at entry and at exit
 abbrev pub Param : {D : Type 0} → Exit D → Type 0
 Param {D} unchanged = D
 Param {D} (leaves _ _ S _) = Both D S
@@ -43,7 +43,7 @@ module _ {n : ℕ} (κs : Lfts n) (Answer : Type 0) where
 abbrev pub Fact : Ended → Type 1
 Fact T = (κs : Lfts (T .signature .lifetimes)) → FactOf κs (Res (T .signature) κs) (T .signature .params) (T .kept)
 
--- the clauses that ask nothing of the caller, and ensure a fact
+-- the clauses that require nothing of the caller, and ensure a fact
 abbrev pub just : {M : Type 1} (𝓤 : URA M) (T : Ended) → Fact T → Clauses 𝓤 T
 just 𝓤 T says κs entry = record { ghost = Unit {0}; requires = λ _. emp 𝓤; ensures = λ _ r exit. fact 𝓤 (factOf κs (Res (T .signature) κs) (T .signature .params) (T .kept) (says κs) entry exit r) }
 

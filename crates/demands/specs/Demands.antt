@@ -24,10 +24,10 @@ use Rattle.demands.specs.Rows.{AllHold, elevenRows}
 -- 1. Every sheet, root cube, depth, map and position gets an answer. A bad one gets the refusal in document 01, in its stated order, without any check by the
 -- caller, and the map buffer is then unchanged.
 pub record Demand1 : Type 0 where
-  -- a contract is one equation: the outcome is what a definition gives for the inputs. So one reply meets it, or one reply with every byte of the buffer, and no other
+  -- A contract is one equation: the outcome is what a definition gives. So exactly one reply meets it, or exactly one reply with every byte of the buffer.
   pub one-reply : (told : ZoneReply) → ExactlyOne (λ (r : ZoneReply). r ≡ told)
   pub one-outcome : (told : ZoneOutcome) → ExactlyOne (λ (o : ZoneReply × List ℕ). zoneOutcome (o .0) (o .1) ≡ told)
-  -- code 0 exactly where no row of the table refuses, with the number of records, the map's length, the number of leaves, or what the leaf says (demand 2)
+  -- code 0 exactly if no row of the table refuses, with the number of records, the map's length, the number of leaves, or what the leaf says (demand 2)
   pub checks : (sheet : List ℕ) → DoneWhere (GoodSheet sheet) (zoneCheckOf sheet) (length (recordsOf sheet))
   pub builds : (sheet : List ℕ) (root : Root) (before : List ℕ) → DoneWhere (CanBuild sheet root before) (zoneBuildOf sheet root before .reply) (length (builtMap (recordsOf sheet) root))
   pub opens : (map : List ℕ) → DoneWhere (Opens anyFace map) (zoneOpenOf map) (length (leavesOf map))
@@ -37,7 +37,7 @@ pub record Demand1 : Type 0 where
   -- a sheet that zone_check refuses is refused by every call with the same code and number
   pub build-refused : (sheet : List ℕ) → (zoneCheckOf sheet .code ≡ 0 → ⊥) → (root : Root) (before : List ℕ) → zoneBuildOf sheet root before ≡ zoneOutcome (zoneCheckOf sheet) before
   pub lookup-refused : (sheet : List ℕ) → (zoneCheckOf sheet .code ≡ 0 → ⊥) → (map : List ℕ) (p : Point) → zoneLookupOf sheet map p ≡ zoneCheckOf sheet
-  -- a refusal leaves the buffer as it was
+  -- a refusal leaves the buffer unchanged
   pub unchanged : (sheet : List ℕ) (root : Root) (before : List ℕ) → (zoneBuildOf sheet root before .reply .code ≡ 0 → ⊥) → zoneBuildOf sheet root before .buffer ≡ before
 
 -- 2. The map is exactly the one named by the interval rules in document 01: same cubes, order, colours and length.
@@ -73,14 +73,14 @@ pub record Demand3 : Type 0 where
   pub truthful : (sheet map : List ℕ) → Built sheet map → Truthful sheet map
   -- So no white leaf shares even a corner with a black leaf, in one map or in two maps built from that sheet with other roots or depths.
   pub no-touch-built : (sheet one other : List ℕ) → Built sheet one → Built sheet other → NoTouch one other
-  -- the same holds of any two truthful maps of one sheet, however they were made
+  -- the same holds for any two truthful maps of one sheet, however they were made
   pub no-touch : (sheet one other : List ℕ) → Truthful sheet one → Truthful sheet other → NoTouch one other
   -- zone_open opens every truthful map
   pub opens : (sheet map : List ℕ) → Truthful sheet map → zoneOpenOf map .code ≡ 0
   -- in every map that it opens, each whole point of the root is in one leaf, and each point of the closed root is in the closed cube of some leaf
   pub tiling : (map : List ℕ) → zoneOpenOf map .code ≡ 0 → (p : Point) → InRoot (rootOf map) p → ExactlyOne (Holds map p)
   pub covering : (map : List ℕ) → zoneOpenOf map .code ≡ 0 → (p : FractionalPoint) → InClosedRoot (rootOf map) p → (i : ℕ) × Touches map p i
-  -- where a lookup in a truthful map returns 1, inside, or 0, outside, that is the truth of the solid at the position
+  -- if a lookup in a truthful map returns 1, inside, or 0, outside, the position is indeed inside or outside the solid
   pub truth : (sheet map : List ℕ) → Truthful sheet map → (p : Point) (inside : Bool) → zoneLookupOf sheet map p ≡ reply 0 (cond inside 1 0)
       → inSolid (recordsOf sheet) (whole p) ≡ inside
 

@@ -1,5 +1,5 @@
--- Document 01's table of replies, in order of test: the code and the number of each refusal, where its row is the first that refuses. Replies 1 to 5 are
--- those of zone_check; the other calls give the same of a sheet that it refuses.
+-- Document 01's table of replies, in order of test: the code and the number of each refusal, if its row is the first that refuses. Replies 1 to 5 are
+-- those of zone_check; the other calls return the same for a sheet that it refuses.
 use mathlib.Core.Path.{_≡_}
 use mathlib.Core.Bool.{Bool, true, false}
 use mathlib.Core.List.{List, [], _∷_}
@@ -23,7 +23,7 @@ use Rattle.building.specs.Build.{builtMap}
 use Rattle.zone.specs.Replies.{reply, zoneCheckOf, zoneBuildOf, zoneOpenOf, zoneLookupOf}
 use Rattle.demands.specs.Terms.{GoodSheet, GoodLeaf, Opens, KeepsLimit}
 
--- of any sheet
+-- for any sheet
 pub record SheetRows (sheet : List ℕ) : Type 0 where
   -- under 3 bytes, or its length disagrees
   pub row-1 : lengthFails sheet ≡ true → zoneCheckOf sheet ≡ reply 1 0
@@ -38,7 +38,7 @@ pub record SheetRows (sheet : List ℕ) : Type 0 where
   pub row-5 : lengthFails sheet ≡ false → getD sheet 2 0 ≡ 1 → length sheet ≤ stopOf sheet → firstUnmet [] (recordsOf sheet) ≡ length (recordsOf sheet)
       → (lastSort (recordsOf sheet) ≡ Logical → ⊥) → zoneCheckOf sheet ≡ reply 5 (length (recordsOf sheet))
 
--- of a good sheet, zone_build
+-- for a good sheet, zone_build
 pub record BuildRows (sheet : List ℕ) (good : GoodSheet sheet) (root : Root) (before : List ℕ) : Type 0 where
   -- root or depth out of limits
   pub row-6 : (WithinLimits root → ⊥) → zoneBuildOf sheet root before .reply ≡ reply 6 0
@@ -51,7 +51,7 @@ pub record BuildRows (sheet : List ℕ) (good : GoodSheet sheet) (root : Root) (
   pub row-8 : WithinLimits root → KeepsLimit (recordsOf sheet) (rootCube root) → pastInTree (recordsOf sheet) (root .d) (rootCube root) ≡ []
       → length before < length (builtMap (recordsOf sheet) root) → zoneBuildOf sheet root before .reply ≡ reply 8 (length (builtMap (recordsOf sheet) root))
 
--- of a good sheet, zone_lookup
+-- for a good sheet, zone_lookup
 pub record LookupRows (sheet : List ℕ) (good : GoodSheet sheet) (map : List ℕ) (p : Point) : Type 0 where
   -- map doesn't open, or a terminal leaf names a record that isn't a face of the sheet: the offset of the first fault
   pub row-9 : (at : ℕ) → faultOf (hasFace (recordsOf sheet)) map ≡ at ∷ [] → zoneLookupOf sheet map p ≡ reply 9 at

@@ -36,12 +36,12 @@ pub record ExactlyOne {A : Type 0} (Fits : A → Type 0) : Type 0 where
   pub fits : Fits one
   pub no-second : (other : A) → Fits other → other ≡ one
 
--- code 0, with this number, exactly where all is fine
+-- code 0, with this number, exactly if all is fine
 pub record DoneWhere (Fine : Type 0) (r : ZoneReply) (number : ℕ) : Type 0 where
   pub done : Fine → r ≡ reply 0 number
   pub only : r .code ≡ 0 → Fine
 
--- a map built from a sheet: for some root and some buffer zone_build returned code 0 with a size, and the map is the first `size` bytes of the buffer afterwards
+-- a map built from a sheet: for some root and some buffer zone_build returned code 0 with a size, and the map is the buffer's first `size` bytes afterwards
 pub record Built (sheet map : List ℕ) : Type 0 where
   pub root : Root
   pub before : List ℕ
@@ -61,12 +61,12 @@ pub record Touches (map : List ℕ) (p : FractionalPoint) (i : ℕ) : Type 0 whe
   pub among : i < length (leavesOf map)
   pub closed : InClosed (nthCube map i) p
 
--- ---- what the rows of the table ask
--- An operand is the number of an earlier record, of the sort that record i asks for.
+-- ---- what the rows of the table require
+-- An operand is the number of an earlier record, of the sort that record i requires.
 abbrev pub Operand : List Record → ℕ → ℕ → Type 0
 Operand rs i a = (a < i) × (sortOf (getD rs a X) ≡ askedOf (getD rs i X))
 
--- rows 1 to 5: the length agrees, the version is 1, every byte belongs to a record, each operand is met, and the last record is logical
+-- rows 1 to 5: the length agrees, the version is 1, every byte belongs to a record, each operand is as required, and the last record is logical
 pub record GoodSheet (sheet : List ℕ) : Type 0 where
   pub long : 3 ≤ length sheet
   pub agrees : unsignedAt 2 sheet 0 + 2 ≡ length sheet
@@ -76,7 +76,7 @@ pub record GoodSheet (sheet : List ℕ) : Type 0 where
       → Operand (recordsOf sheet) i (firstOf (getD (recordsOf sheet) i X)) × Operand (recordsOf sheet) i (secondOf (getD (recordsOf sheet) i X))
   pub solid : lastSort (recordsOf sheet) ≡ Logical
 
--- row 9, of leaf i: level at most d, class at most 4, gray only at level d, face 0 unless class 2 or 3, and then a face that may be named; the place is a
+-- row 9, for leaf i: level at most d, class at most 4, gray only at level d, face 0 unless class 2 or 3, and then a face that may be named; the place is a
 -- multiple of the leaf's own 8^(d-level), and the leaf ends at or before 8^d
 pub record GoodLeaf (named : ℕ → Bool) (map : List ℕ) (i : ℕ) : Type 0 where
   pub level : nthLeaf map i .level ≤ rootOf map .d
@@ -116,16 +116,16 @@ pub record CanLookUp (sheet map : List ℕ) (p : Point) : Type 0 where
   pub inside : InRoot (rootOf map) p
 
 -- ---- a map that is truthful to a sheet
--- what demand 3 says of a point and a leaf: "If it is in a white leaf's closed cube it is outside the solid; in a black one, inside; in a terminal one, it agrees
--- with the named face or with its complement, as marked." (What is named must be a face: the solid's own record would agree with every point.)
+-- what demand 3 says of a point and a leaf: "If it is in a white leaf's closed cube it is outside the solid; in a black one, inside; in a terminal one, it
+-- agrees with the named face or with its complement, as marked." (What is named must be a face: the solid's own record would agree with every point.)
 pub record Agrees (rs : List Record) (leaf : Leaf) (p : FractionalPoint) : Type 0 where
   pub white : leaf .class ≡ 0 → inSolid rs p ≡ false
   pub black : leaf .class ≡ 1 → inSolid rs p ≡ true
   pub terminal : leaf .class ≡ 2 → (hasFace rs (leaf .face) ≡ true) × (inSolid rs p ≡ holdsAt rs (leaf .face) p)
   pub complement : leaf .class ≡ 3 → (hasFace rs (leaf .face) ≡ true) × (inSolid rs p ≡ not (holdsAt rs (leaf .face) p))
 
--- every leaf, as the map's own bytes place it, agrees with the sheet at every fractional point of its closed cube; and the map opens, with no other faces than the
--- sheet's, so that its leaves cover its root (of bytes that hold no leaf, `agrees` alone would say nothing)
+-- every leaf, as the map's own bytes place it, agrees with the sheet at every fractional point of its closed cube; and the map opens, with no faces but the
+-- sheet's, so its leaves cover its root (for bytes that hold no leaf, `agrees` alone would say nothing)
 pub record Truthful (sheet map : List ℕ) : Type 0 where
   pub opens : Opens (hasFace (recordsOf sheet)) map
   pub agrees : (p : FractionalPoint) (i : ℕ) → Touches map p i → Agrees (recordsOf sheet) (nthLeaf map i) p

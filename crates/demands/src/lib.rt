@@ -1,1 +1,1 @@
-// The three demands: stated in specs/Demands.antt, proved in proofs/. There is no code, and nothing stands on this crate.
+// The three demands: stated in specs/Demands.antt, proved in proofs/. There is no code, and nothing depends on this crate.

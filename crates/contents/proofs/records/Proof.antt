@@ -1,4 +1,4 @@
--- `contents::records` ends, and its count stays below 257: n records came before the cursor.
+-- `contents::records` ends, and its count stays below 257: the cursor has n records before it.
 use mathlib.Core.Path.{sym, _∙_}
 use native.Mathlib.Omega.{arith}
 use borrow.Author.Needs.{needs}

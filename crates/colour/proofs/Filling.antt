@@ -1,4 +1,4 @@
--- The loop that works out the bounds and states of all records over a cube: the first n records are done, and four arrays hold what is known of them.
+-- The loop that computes the bounds and states of all records over a cube: the first n records are done, and four arrays hold what is known of them.
 use mathlib.Core.Path.{_≡_, refl, sym, ap, _∙_}
 use mathlib.Core.Bool.{false}
 use mathlib.Core.List.{List, [], _∷_, _++_, append-assoc}

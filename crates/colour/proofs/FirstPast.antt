@@ -15,19 +15,19 @@ use Rattle.colour.proofs.Arms.{zero-small}
 abbrev pub Keep : List Entry → Type 0
 Keep es = (a : ℕ) → SmallEnds (getD es a blank .bounds)
 
--- an entry past the limit is the first where those before it keep the limit
+-- an entry past the limit is the first if those before it keep the limit
 pub first-past : (n m : ℕ) (es : List Entry) (e : Entry) (after : List Entry) → Keep es → isWithin (e .bounds) ≡ false → m ≡ n + length es → pastFrom n (es ++ e ∷ after) ≡ m ∷ []
 unfolding pastFrom
 first-past n m [] e after k p h = rw p (let z : n ≡ m = omega arith in ap (λ (i : ℕ). i ∷ []) z)
 first-past n m (x ∷ es) e after k p h = rw (ends-within (x .bounds) (k 0)) (first-past (suc n) m es e after (λ a. k (suc a)) p (omega arith))
 
--- where all keep it, none is past it
+-- if all keep it, none is past it
 pub none-past : (n : ℕ) (es : List Entry) → Keep es → pastFrom n es ≡ []
 unfolding pastFrom
 none-past n [] k = refl
 none-past n (x ∷ es) k = rw (ends-within (x .bounds) (k 0)) (none-past (suc n) es (λ a. k (suc a)))
 
--- where none is past it, all keep it
+-- if none is past it, all keep it
 pub all-keep : (n : ℕ) (es : List Entry) → pastFrom n es ≡ [] → Keep es
 unfolding pastFrom
 all-keep n [] h a = zero-small

@@ -63,7 +63,7 @@ module _ (decides : State → Bool) (decided : State) (leaves : State → Bool) 
           unfolding joinedBy
           neither nd = rw (sym ea ∙ na, sym eb ∙ nb, sym ec ∙ nc, sym ed ∙ nd) (sym (otherwise-mixed decided s t))
 
-  -- ---- the order of the operands does not matter, where no two different states leave it to the other
+  -- ---- the order of the operands does not matter, if no two different states leave it to the other
   pub joined-commutes : (leaves s ≡ true → leaves t ≡ true → s ≡ t) → joined ≡ joinedBy decides decided leaves t s
   unfolding joinedBy
   joined-commutes one =

@@ -1,4 +1,4 @@
--- Document 01's worked rows of bounds and states, worked out from the definitions.
+-- Document 01's worked rows of bounds and states, computed from the definitions.
 use mathlib.Core.Path.{_≡_, refl}
 use mathlib.Core.List.{List, [], _∷_}
 use lib.IntN.{pos, negsuc}

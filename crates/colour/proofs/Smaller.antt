@@ -1,4 +1,4 @@
--- Over a cube inside another, each record's bounds lie in its bounds over the other. So where no record passes the limit over a cube, none does over a smaller one.
+-- Over a cube inside another, a record's bounds lie in its bounds over the other. So if no record passes the limit over a cube, none does over a smaller one.
 use mathlib.Core.Path.{_≡_}
 use mathlib.Core.List.{List, []}
 use Prim.Native.Nat.{ℕ, _≤_, _^_}
@@ -63,7 +63,7 @@ inside-small i j h s =
       high = between-small (j .low) (i .high) (j .high) (≤-trans _ _ _ (h .low) (h .ordered)) (h .high) (s .low) (s .high);
     }
 
--- no record passes the limit exactly where all entries keep it
+-- no record passes the limit exactly if all entries keep it
 pub none-keep : (rs : List Record) (q : Cube) → firstPast rs q ≡ [] → Keep (entries q rs)
 unfolding firstPast
 none-keep rs q e = all-keep 0 (entries q rs) e

@@ -1,4 +1,4 @@
--- What judging a cube tells: the state of the record that was asked for, or the first record past the limit.
+-- What judging a cube returns: the state of the record that was asked for, or the first record past the limit.
 use mathlib.Core.Path.{_≡_, ap, _∙_}
 use mathlib.Core.List.{List, [], _∷_}
 use Prim.Native.Nat.{ℕ}

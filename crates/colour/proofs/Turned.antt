@@ -1,4 +1,4 @@
--- How the rules of states hang together: either is both turned over, complement twice changes nothing, and what both gives of In, of Out and of two other states.
+-- How the rules of states are related: either is both turned over, complement twice changes nothing, and what both gives for In, Out and two other states.
 use mathlib.Core.Path.{_≡_, refl, sym, _∙_}
 use mathlib.Core.Bool.{Bool, true, false, cond}
 use Rattle.integers.proofs.Order.{by-test}

@@ -11,7 +11,7 @@ use Rattle.cube.specs.declared.Cube.{Cube}
 unfoldable pub across : ℤ → ℕ → Interval
 across low side = from low (low +ℤ pos side)
 
--- what stands for the bounds of a record that has none: a logical one, or one that is not there
+-- the default bounds, for a record that has none: a logical one, or a missing one
 abbrev pub none : Interval
 none = only (pos 0)
 

@@ -22,7 +22,7 @@ pub record Entry : Type 0 where
   pub bounds : Interval
   pub state : State
 
--- what stands for a record that is not there; it holds nowhere
+-- the default for a missing record; it holds nowhere
 abbrev pub blank : Entry
 blank = record { bounds = none; state = Out }
 
@@ -44,12 +44,12 @@ entryOf q before r =
 abbrev pub entries : Cube → List Record → List Entry
 entries q = along (entryOf q)
 
--- the first record whose bounds pass 2^60, where one does, among entries that begin with that of record n
+-- the first record whose bounds pass 2^60, if one does, among entries that begin with that of record n
 unfoldable pub pastFrom : ℕ → List Entry → List ℕ
 pastFrom n [] = []
 pastFrom n (e ∷ es) = cond (isWithin (e .bounds)) (pastFrom (suc n) es) (n ∷ [])
 
--- the first record whose bounds over a cube pass 2^60, where one does
+-- the first record whose bounds over a cube pass 2^60, if one does
 unfoldable pub firstPast : List Record → Cube → List ℕ
 firstPast rs q = pastFrom 0 (entries q rs)
 

@@ -35,7 +35,7 @@ complementOf (Single f) = Comp f
 complementOf (Comp f) = Single f
 complementOf Mixed = Mixed
 
--- what two states give where neither decides and neither leaves it to the other: Mixed
+-- what two states give if neither decides and neither leaves it to the other: Mixed
 unfoldable pub otherwiseOf : State → State → State → State
 otherwiseOf decided s t = Mixed
 

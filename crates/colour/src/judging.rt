@@ -13,7 +13,8 @@ use crate::states;
 use cube::Cube;
 use interval::Bounded;
 
-// The state of record `which` over a cube, or the first of the sheet's `count` records whose bounds pass the limit. The bounds are filled in place, since copying them for each record would cost more than the rules.
+// The state of record `which` over a cube, or the first of the sheet's `count` records whose bounds pass the limit. The bounds are filled in place, since
+// copying them for each record would cost more than the rules.
 pub fn judge(s: &[u8], offsets: &[u16], count: usize, q: Cube, which: u8) -> Judged
     requires { ⌜ Offsets (now offsets) (now s) ⌝ ∗ ⌜ count ≡ length (recordsOf (now s)) ⌝ ∗ ⌜ Near 0 q ⌝ }
     ensures { λ r. ⌜ r ≡ judgedOf (recordsOf (now (s .entry))) q which ⌝ }

@@ -6,8 +6,8 @@ mod states;
 
 pub use judging::judge;
 
-// What is known of a logical record over a cube: it holds nowhere in the cube; it holds all over it; it holds exactly where one face does; it holds exactly where
-// that face does not; or nothing is known. The variants stand in the order of their classes, 0 to 4.
+// What is known of a logical record over a cube: it holds nowhere in the cube; it holds all over it; it holds exactly where one face does; it holds exactly
+// where that face does not; or nothing is known. The variants are in the order of their classes, 0 to 4.
 pub enum State {
     Out,
     In,

@@ -20,7 +20,7 @@ pub fn face_state(bounds: Interval, f: u8) -> State
     State::Single(f)
 }
 
-// The state of record a, whose class and face stand in two lists.
+// The state of record a, whose class and face are in two lists.
 pub fn state_at(classes: &[u8], faces: &[u8], a: u8) -> State
     requires { ⌜ length (now classes) ≡ 256 ⌝ ∗ ⌜ length (now faces) ≡ 256 ⌝ }
     ensures { λ r. ⌜ r ≡ stateBy (getD (now (classes .entry)) a 0) (getD (now (faces .entry)) a 0) ⌝ }
@@ -121,7 +121,7 @@ impl State {
         }
     }
 
-    // The face that a leaf names, 0 where it names none.
+    // The face that a leaf names, 0 if it names none.
     pub fn face(self) -> u8
         ensures { λ r. ⌜ r ≡ faceOf self ⌝ }
     {

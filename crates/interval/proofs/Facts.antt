@@ -1,4 +1,4 @@
--- What a caller learns from an interval held to the limit: which interval it is, and that its ends are within the limit.
+-- What a caller learns from an interval tested against the limit: which interval it is, and that its ends are within the limit.
 use mathlib.Core.Path.{_≡_}
 use mathlib.Core.Bool.{true, false, and-eq-true-iff}
 use Rattle.integers.proofs.Order.{by-test}
@@ -19,7 +19,7 @@ pub ends-within : (i : Interval) → SmallEnds i → isWithin i ≡ true
 unfolding isWithin
 ends-within i s = rw (small-test (i .low) (s .low), small-test (i .high) (s .high))
 
--- ---- an interval held to the limit
+-- ---- an interval tested against the limit
 pub bounded-within : (i : Interval) → isWithin i ≡ true → boundedOf i ≡ Within i
 unfolding boundedOf
 bounded-within i t = rw t
@@ -28,7 +28,7 @@ pub bounded-past : (i : Interval) → isWithin i ≡ false → boundedOf i ≡ P
 unfolding boundedOf
 bounded-past i t = rw t
 
--- ---- what the returned r tells
+-- ---- what follows from the returned r
 module _ (r : Bounded) (i : Interval) (e : r ≡ boundedOf i) where
   pub past-tells : r ≡ Past → isWithin i ≡ false
   past-tells p = by-test (isWithin i) (λ t. let v = bounded-within i t in cc) (λ t. t)

@@ -1,4 +1,4 @@
--- Smaller operands give a smaller result: where each operand lies inside another, so does the result of each of the four rules.
+-- Smaller operands give a smaller result: if each operand lies inside another, the result of each of the four rules lies inside the other result.
 use lib.IntN.{ℤ, _*ℤ_}
 use lib.Signed.{_≤ℤ_, ≤ℤ-refl}
 use Rattle.integers.proofs.Ring.{times-one}
@@ -13,7 +13,7 @@ use Rattle.interval.proofs.Inclusion.{product-holds, by-case, square-ho
 whole : {i : Interval} {a : ℤ} → i .low ≤ℤ a → a ≤ℤ i .high → Between i 1 a
 whole {i} h k = record { low = rw (times-one (i .low)) h; high = rw (times-one (i .high)) k }
 
--- an interval lies inside another where its ends are in order and lie in the other
+-- an interval lies inside another if its ends are in order and lie in the other
 inside : {i j : Interval} → Between j 1 (i .low) → i .low ≤ℤ i .high → Between j 1 (i .high) → Inside i j
 inside {i} {j} h o k = record { low = rw (times-one (j .low)) at (h .low); ordered = o; high = rw (times-one (j .high)) at (k .high) }
 

@@ -1,5 +1,5 @@
--- Laws of the limit: what the test of a number says, that the machine keeps numbers within the limit, and that a clamped number serves as well as the number
--- where only the limit matters.
+-- Laws of the limit: what the test of a number says, that the machine keeps numbers within the limit unchanged, and that a clamped number serves as well as
+-- the number itself if only the limit matters.
 use mathlib.Core.Path.{_≡_, refl, sym}
 use mathlib.Core.Bool.{true, false}
 use Prim.Native.Nat.{_+_, _≤_, _<_, _^_}
@@ -66,7 +66,7 @@ above = pos (2 ^ 60 + 1)
 abbrev below : ℤ
 below = negℤ above
 
--- what holds of z within the limit, and of what stands for z past it, holds of z clamped
+-- what holds of z within the limit, and of the number that replaces z past it, holds of z clamped
 clamp-cases : (P : ℤ → Type 0) (z : ℤ) → (below ≤ℤ z → z ≤ℤ above → P z) → (above ≤ℤ z → P above) → (z ≤ℤ below → P below) → P (clampOf z)
 unfolding clampOf
 clamp-cases P (pos n) exact high low =
@@ -91,7 +91,7 @@ unfolding isSmall
 clamp-small z =
     clamp-cases (λ x. isSmall x ≡ isSmall z) z (λ s t. refl) (λ s. sym (large-test z (omega (arith, ints, abs-is z)))) (λ s. sym (large-test z (omega (arith, ints, abs-is z))))
 
--- an interval may be held to the limit by its ends clamped
+-- an interval may be tested against the limit with its ends clamped
 pub bounded-clamped : (l h : ℤ) → boundedOf (from (clampOf l) (clampOf h)) ≡ boundedOf (from l h)
 unfolding boundedOf isWithin
 bounded-clamped l h =

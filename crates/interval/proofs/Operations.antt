@@ -1,4 +1,4 @@
--- Facts for the proofs of the operations on intervals, in the form in which the proofs need them: the machine reads a number back from its bits.
+-- Facts for the proofs of the operations on intervals, in the form that the proofs need: the machine reads a number back from its bits.
 use mathlib.Core.Path.{_≡_, ap, ap₂, _∙_}
 use mathlib.Core.Bool.{true, false}
 use Prim.Native.Nat.{_≤_, _<_, _^_}
@@ -33,7 +33,7 @@ pub times-told : (r a b : ℤ) → natAbs a ≤ 2 ^ 60 → natAbs b ≤ 2 ^ 60 �
     → toZ w64 (ofZ w64 r) ≡ clampOf (a *ℤ b)
 times-told r a b ha hb e h = again w64 r (clampOf (a *ℤ b)) (rw (limit-back a ha, limit-back b hb) at e) h
 
--- the span of four numbers may be held to the limit by the numbers clamped
+-- the span of four numbers may be tested against the limit with the numbers clamped
 span-clamped : (p q r s : ℤ) → boundedOf (span (clampOf p) (clampOf q) (clampOf r) (clampOf s)) ≡ boundedOf (span p q r s)
 unfolding span
 span-clamped p q r s =

@@ -1,4 +1,4 @@
--- Facts for the proofs of `magnitude`, `is_small_product` and `times`, in the form in which the proofs need them: the machine reads a number back from its bits.
+-- Facts for the proofs of `magnitude`, `is_small_product` and `times`, in the form that the proofs need: the machine reads a number back from its bits.
 use mathlib.Core.Path.{_≡_, refl, sym, _∙_}
 use mathlib.Core.Bool.{Bool, true, false, Bool·beq}
 use Prim.Native.Nat.{ℕ, zero, suc, _+_, _*_, _/_, _≤_, _<_, _^_}
@@ -47,7 +47,7 @@ module _ (m n : ℕ) where
       (λ t. t ∙ sym (lt-leb (m * n) (2 ^ 60) (div-lt-iff-lt-mul {k = n} {y = m} (omega arith) .0 (leb-false m (2 ^ 60 / n) t))))
 
 -- ---- times
--- a product that is not zero is positive where its factors have one sign
+-- a product that is not zero is positive if its factors have the same sign
 minus : (n : ℕ) → 0 < n → nonNeg (negℤ (pos n)) ≡ false
 minus zero h = let z : ⊥ = omega arith in absurd z
 minus (suc n) h = refl

@@ -1,4 +1,4 @@
--- The rules are as narrow as possible: each end of a sum, difference, product or square is that of numbers of the operands. With `Inclusion` this leaves no other interval.
+-- The rules are as narrow as possible: each end is the result for some numbers of the operands. Together with `Inclusion` this leaves no other interval.
 use mathlib.Core.Path.{_≡_, refl}
 use lib.IntN.{ℤ, pos, _+ℤ_, _-ℤ_, _*ℤ_}
 use lib.Signed.{_≤ℤ_, ≤ℤ-refl}
@@ -48,7 +48,7 @@ module _ (i j : Interval) (hi : i .low ≤ℤ i .high) (hj : j .low ≤ℤ j .hi
       let op : ℤ → ℤ → ℤ = _*ℤ_ in
       (least-any (Reached op i j) _ _ _ _ (low-low op) (low-high op) (high-low op) (high-high op), greatest-any (Reached op i j) _ _ _ _ (low-low op) (low-high op) (high-low op) (high-high op))
 
--- the first number of the two, by itself
+-- the first of the two numbers, times itself
 pub square-reached : (i : Interval) → i .low ≤ℤ i .high → Ends (λ a b. a *ℤ a) i i (square i)
 square-reached i h =
     let op : ℤ → ℤ → ℤ = (λ a b. a *ℤ a) in

@@ -1,5 +1,5 @@
--- Facts for the proofs of `is_small`, `is_within`, `limited`, `lesser`, `greater` and `span`, in the form in which the proofs need them: the machine reads a number
--- back from its bits.
+-- Facts for the proofs of `is_small`, `is_within`, `limited`, `lesser`, `greater` and `span`, in the form that the proofs need: the machine reads a number back
+-- from its bits.
 use mathlib.Core.Path.{_≡_, refl, sym, ap₂, _∙_}
 use mathlib.Core.Bool.{Bool, true, false, cond}
 use Prim.Native.Nat.{_<_, _^_}
@@ -18,7 +18,7 @@ use Rattle.interval.specs.declared.Bounded.the-variants.{Within, Past}
 use Rattle.interval.proofs.Limit.{small-test, large-test}
 use Rattle.interval.proofs.Facts.{bounded-within, bounded-past}
 
--- ---- is_small: the two tests are the one of the magnitude
+-- ---- is_small: the two tests together are the test of the magnitude
 at-least : (x : ℤ) → leZ (negℤ (pos (2 ^ 60))) x ≡ true → leZ x (pos (2 ^ 60)) ≡ isSmall x
 unfolding isSmall
 at-least (pos n) t = refl
@@ -56,7 +56,7 @@ module _ (i : Interval) (b : Bool) (e : b ≡ isWithin i) where
   pub limited-past : b ≡ false → Past ≡ boundedOf i
   limited-past t = sym (bounded-past i (sym e ∙ t))
 
--- ---- lesser and greater: one of two numbers, by the order of two
+-- ---- lesser and greater: x or y, by the order of a and b
 module _ (a b x y : ℤ) (fa : SFits w64 a) (fb : SFits w64 b) where
   pub chosen-first : SFits w64 x → leZ (toZ w64 (ofZ w64 a)) (toZ w64 (ofZ w64 b)) ≡ true → toZ w64 (ofZ w64 x) ≡ cond (leZ a b) x y
   chosen-first fx t = rw (toZ-ofZ fx, rw (toZ-ofZ fa, toZ-ofZ fb) at t)

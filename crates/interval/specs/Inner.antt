@@ -5,6 +5,6 @@ use lib.IntN.{ℤ, pos, negℤ}
 use lib.Signed.{nonNeg}
 use Rattle.interval.specs.Limit.{isSmall}
 
--- the number where it is within the limit, otherwise the first number past the limit on its side
+-- the number if it is within the limit, otherwise the first number past the limit on its side
 unfoldable pub clampOf : ℤ → ℤ
 clampOf z = cond (isSmall z) z (cond (nonNeg z) (pos (2 ^ 60 + 1)) (negℤ (pos (2 ^ 60 + 1))))

@@ -15,7 +15,7 @@ isSmall z = leb (natAbs z) (2 ^ 60)
 unfoldable pub isWithin : Interval → Bool
 isWithin i = isSmall (i .low) && isSmall (i .high)
 
--- the one place where an interval is held to the limit
+-- the one place where an interval is tested against the limit
 unfoldable pub boundedOf : Interval → Bounded
 boundedOf i = cond (isWithin i) (Within i) Past
 

@@ -21,7 +21,7 @@ pub struct Interval {
     pub high: i64,
 }
 
-// An interval with both ends within the limit, or Past, where an end is not.
+// An interval with both ends within the limit, or Past if an end is not.
 pub enum Bounded {
     Within(Interval),
     Past,
@@ -57,7 +57,7 @@ fn is_small_product(m: u64, n: u64) -> bool
     m <= LIMIT / n
 }
 
-// The product where it is within the limit; otherwise the first number past the limit, on the product's side.
+// The product if it is within the limit; otherwise the first number past the limit, on the product's side.
 fn times(a: i64, b: i64) -> i64
     requires { ⌜ natAbs a ≤ 2 ^ 60 ⌝ ∗ ⌜ natAbs b ≤ 2 ^ 60 ⌝ }
     ensures { λ r. ⌜ r ≡ clampOf (a *ℤ b) ⌝ }

@@ -1,4 +1,4 @@
--- Beside each point of a closed cube is a whole point of the cube, high planes left out. So the leaf that has the whole point has the point in its closed cube.
+-- Next to each point of a closed cube is a whole point of the cube, high planes left out. So if a leaf holds the whole point, its closed cube holds the point.
 use mathlib.Core.Path.{_≡_}
 use mathlib.Core.Bool.{true}
 use Prim.Native.Nat.{ℕ, zero, suc, _*_, _≤_, _<_}
@@ -51,7 +51,7 @@ module _ (plane : ℤ) (side : ℕ) (a : ℤ) (n : ℕ) (positive : 0 < side) (h
   abbrev found : Beside gap n side
   found = beside gap n side positive gap-high
 
-  -- the whole number beside a/n
+  -- the whole number next to a/n
   abbrev near : ℤ
   near = plane +ℤ pos (found .steps)
 
@@ -76,7 +76,7 @@ module _ (plane : ℤ) (side : ℕ) (a : ℤ) (n : ℕ) (positive : 0 < side) (h
 
 -- ---- a cube
 module _ (q : Cube) (p : FractionalPoint) (positive : 0 < q .side) (h : InClosed q p) where
-  -- the whole point beside the point
+  -- the whole point next to the point
   pub beside-point : Point
   beside-point = record {
     x = near _ _ _ _ positive (h .x);

@@ -1,5 +1,5 @@
--- What a sheet means at a point, said again in other words: values are ordinary fractions, over any denominator, and face, both, either and complement have their
--- plain meanings.
+-- What a sheet means at a point, said again in other words: values are ordinary fractions, over any denominator, and face, both, either and complement have
+-- their plain meanings.
 use mathlib.Core.Path.{_≡_, refl, sym, ap, ap₂, _∙_}
 use mathlib.Core.Bool.{Bool, true, false, _||_, not, true≢false, and-eq-true-iff}
 use mathlib.Core.List.{List, [], _∷_, _++_}

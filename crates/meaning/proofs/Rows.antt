@@ -1,4 +1,4 @@
--- Sheets at points of fractions, the step room first, worked out from the definitions.
+-- Sheets at points of fractions, the step room first, computed from the definitions.
 use mathlib.Core.Path.{_≡_, refl}
 use mathlib.Core.Bool.{true, false}
 use Prim.Native.Nat.{ℕ, suc}
@@ -37,7 +37,7 @@ unfolding inSolid holdsAt along onward meaningOf valueOf holdsOf
 rows = record { corner = refl; same = refl; past = refl; other = refl; before = refl }
 
 -- ---- the other kinds, at halves and thirds
--- the records that work out a value, the last of which has the number `value`, and a face after them: the value is at most c
+-- the records that compute a value, the last of which has the number `value`, and a face after them: the value is at most c
 abbrev atMost : List Record → ℕ → ℕ → List Record
 atMost [] value c = Constant (pos c) ∷ Difference value (suc value) ∷ Face (suc (suc value)) ∷ []
 atMost (r ∷ rs) value c = r ∷ atMost rs value c

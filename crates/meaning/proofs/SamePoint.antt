@@ -18,7 +18,7 @@ use Rattle.meaning.specs.Truth.{Value, over, raised, plus, minus, times,
 
 -- ---- numerators and denominator m times as large
 module _ (m : ℕ) (positive : 0 < m) where
-  -- values over n and over n m: the same power, and the numerator so many times as large
+  -- one value over n and over n m: the same power, and the numerator m^power times as large
   record Same (v w : Value) : Type 0 where
     power : w .power ≡ v .power
     numerator : w .numerator ≡ v .numerator *ℤ pos (m ^ v .power)

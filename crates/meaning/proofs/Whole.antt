@@ -19,7 +19,7 @@ whole-between plane side v l u = record { low = rw (times-one plane) l; high = r
 held-between : (low : ℤ) (side : ℕ) (v : ℤ) → axisHolds low side v ≡ true → BetweenPlanes low side v 1
 held-between low side v e = let b = axis-between low side v e in whole-between low side v (b .0) (omega (arith, ints, b .1))
 
--- a cube that has a whole point, high planes left out, has it when it is closed
+-- a cube that holds a whole point, high planes left out, also holds it as a closed cube
 pub held-closed : (q : Cube) (p : Point) → holdsPoint q p ≡ true → InClosed q (whole p)
 held-closed q p e =
     let t = axes q p e in

@@ -32,7 +32,7 @@ minus n v w = over (raised n v (w .power) -ℤ raised n w (v .power)) (v .power 
 abbrev pub times : Value → Value → Value
 times v w = over (v .numerator *ℤ w .numerator) (v .power + w .power)
 
--- n is positive, so that a value is at most 0 exactly where its numerator is
+-- n is positive, so a value is at most 0 exactly if its numerator is
 abbrev pub atMostZero : Value → Bool
 atMostZero v = leZ (v .numerator) (pos 0)
 
@@ -41,11 +41,11 @@ pub record Meaning : Type 0 where
   pub value : Value
   pub holds : Bool
 
--- what stands for the value of a record that has none: a logical one, or one that is not there
+-- the default value, for a record that has none: a logical one, or a missing one
 abbrev pub zero : Value
 zero = over (pos 0) 0
 
--- what stands for a record that is not there; it holds nowhere
+-- the default for a missing record; it holds nowhere
 abbrev pub absent : Meaning
 absent = record { value = zero; holds = false }
 

@@ -1,4 +1,4 @@
--- Bounds over a closed cube hold the value of each record at every point of it, fractions included.
+-- Bounds over a closed cube contain the value of each record at every point of it, fractions included.
 use mathlib.Core.List.{List}
 use Prim.Native.Nat.{ℕ, _*_, _^_}
 use native.Mathlib.Nat.{mul-comm}
@@ -77,7 +77,7 @@ module _ (q : Cube) (p : FractionalPoint) (h : InClosed q p) where
   pub bounds-hold : (rs : List Record) (i : ℕ) → HoldsValue (p .n) (getD (entries q rs) i blank .bounds) (getD (meanings p rs) i absent .value)
   bounds-hold rs i = related Held blank absent (alone (p .n) (pos 0)) (entryOf q) (meaningOf p) step-holds rs .each i
 
-  -- and so do the bounds by which a face is coloured hold its operand's value
+  -- and the bounds by which a face is coloured contain its operand's value
   pub face-bounds-hold : (rs : List Record) (i : ℕ) → HoldsValue (p .n) (faceBounds q (getD (entries q rs) i blank)) (getD (meanings p rs) i absent .value)
   unfolding faceBounds
   face-bounds-hold = bounds-hold

@@ -1,4 +1,4 @@
--- States are sound: what a record's state over a closed cube says is so at every point of it, fractions included.
+-- States are sound: what a record's state over a closed cube says is true at every point of it, fractions included.
 use mathlib.Core.Path.{_≡_, refl, sym, ap, _∙_}
 use mathlib.Core.Bool.{Bool, true, false, not, _&&_, _||_, and-true, and-false, or-true, or-false, Bool·not-not}
 use mathlib.Core.List.{List, _∷_, _++_}
@@ -121,7 +121,7 @@ module _ (q : Cube) (p : FractionalPoint) (h : InClosed q p) (rs : List Record) 
   step-sound before (Either a b) after e k = either-sound face _ _ _ _ (k .each a) (k .each b)
   step-sound before (Complement a) after e k = complement-sound face _ _ (k .each a)
 
-  -- what the state of record i over the cube says is so at the point
+  -- what the state of record i over the cube says is true at the point
   pub states-sound : (i : ℕ) → Sound face (getD (entries q rs) i blank .state) (holdsAt rs i p)
   unfolding Sound holdsAt
   states-sound i = related-in Says blank absent refl (entryOf q) (meaningOf p) rs step-sound .each i

@@ -39,7 +39,7 @@ cube low side = record { x = low; y = low; z = pos 0; side = side; level = 0 }
 abbrev at : ℤ → ℤ → ℕ → FractionalPoint
 at x y m = record { x = x; y = y; z = pos 0; n = suc m; positive = zero-lt-suc m }
 
--- ---- corners sampled: In where all eight corners are inside, Out where none is
+-- ---- corners sampled: In if all eight corners are inside, Out if none is
 abbrev corner : Cube → ℕ → FractionalPoint
 corner q k = record {
   x = q .x +ℤ pos (half 0 k * q .side);
@@ -64,7 +64,7 @@ sampled rs q = let inside : ℕ → Bool = λ k. inSolid rs (corner q k) in cond
 abbrev strip : List Record
 strip = X ∷ Constant (pos 1) ∷ Constant (pos 2) ∷ Difference 1 0 ∷ Difference 0 2 ∷ Face 3 ∷ Face 4 ∷ Both 5 6 ∷ []
 
--- that a number lies between two planes, by computing
+-- a number lies between two planes, by computation
 abbrev lies : {plane : ℤ} {side : ℕ} {a : ℤ} {n : ℕ} → T (leZ (plane *ℤ pos n) a) → T (leZ a ((plane +ℤ pos side) *ℤ pos n)) → BetweenPlanes plane side a n
 lies l u = record { low = record { le = l }; high = record { le = u } }
 

@@ -8,7 +8,7 @@ use Rattle.colour.specs.declared.State.{State}
 use Rattle.colour.specs.declared.State.the-variants.{Out, In, Single, Comp, Mixed}
 use Rattle.meaning.specs.Truth.{Value}
 
--- the interval holds the value, a numerator over a power of n
+-- the interval contains the value, a numerator over a power of n
 abbrev pub HoldsValue : ℕ → Interval → Value → Type 0
 HoldsValue n i v = Between i (n ^ v .power) (v .numerator)
 

@@ -1,1 +1,1 @@
-// Bounds hold values and states are sound at every point of a closed cube, fractions included: laws over `colour` and `meaning`, see proofs/. There is no code.
+// Bounds contain values and states are sound at every point of a closed cube, fractions included: laws of `colour` and `meaning`, in proofs/. There is no code.

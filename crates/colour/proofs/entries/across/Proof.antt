@@ -1,4 +1,4 @@
--- `colour::entries::across` meets its contract: a coordinate and a side are far from what 64 bits hold.
+-- `colour::entries::across` meets its contract: the sum of a coordinate and a side fits in 64 bits.
 use Rattle.integers.proofs.Machine.{wide-fits, wide-sum-fits}
 use Rattle.colour.proofs.Coordinates.{across-is}
 use borrow.Author.Needs.{needs}

@@ -1,4 +1,4 @@
--- `colour::judging::judge` meets its contract. The invariant is `Filling`: so many records are done, and the arrays hold what is known of each.
+-- `colour::judging::judge` meets its contract. The invariant is `Filling`: the first n records are done, and the arrays hold what is known of them.
 use borrow.Author.Needs.{needs, scaled-fits, fits-under}
 use Prim.Native.Nat.{_-_}
 use native.Mathlib.Omega.{arith}

@@ -61,7 +61,7 @@ pub fn open(number: u64, random: &mut Random) -> Made {
         _ if number % LARGEST_ONCE_IN == LARGEST_ONCE_IN / 2 => largest(number, random),
         0..=2 => ("map: as it is built", lookups::planned(random).1),
         3..=5 => ("map: random leaves of any face", of_any_face(random)),
-        6 => ("map: root at its limits and beside", at_limits(random)),
+        6 => ("map: root at and near its limits", at_limits(random)),
         7 => ("map: random bytes for leaves", random_leaves(random)),
         8..=11 => damage_maps::damaged(&lookups::planned(random).1, random),
         _ => damage_maps::damaged(&of_any_face(random), random),

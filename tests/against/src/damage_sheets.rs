@@ -30,9 +30,9 @@ const DAMAGES: [(&str, Damage); 21] = [
     ("sheet: operand", operand),
     ("sheet: constant", constant),
     ("sheet: cut", cut),
-    ("sheet: cut, length told", cut_told),
+    ("sheet: cut, length agrees", cut_told),
     ("sheet: longer", longer),
-    ("sheet: longer, length told", longer_told),
+    ("sheet: longer, length agrees", longer_told),
     ("sheet: record removed", removed),
     ("sheet: record twice", twice),
     ("sheet: records swapped", swapped),
@@ -43,7 +43,7 @@ const DAMAGES: [(&str, Damage); 21] = [
     ("sheet: no records", no_records),
     ("sheet: under 3 bytes", under_3),
     ("sheet: random records", random_records),
-    ("sheet: as long as two bytes can tell", longest),
+    ("sheet: as long as two bytes can say", longest),
 ];
 
 /// Damages a good sheet in one field, in two, or in one byte.

@@ -118,7 +118,7 @@ pub fn of_point(lookup: &Lookup, point: [i32; 3]) -> Vec<&'static str> {
     names(&[
         ("point: in the root", cube.holds(point)),
         (
-            "point: beside a low plane of the root",
+            "point: next to a low plane of the root",
             at(|cube, axis| cube.low[axis] - 1),
         ),
         (
@@ -126,7 +126,7 @@ pub fn of_point(lookup: &Lookup, point: [i32; 3]) -> Vec<&'static str> {
             at(|cube, axis| cube.low[axis]),
         ),
         (
-            "point: beside a high plane of the root",
+            "point: next to a high plane of the root",
             at(|cube, axis| cube.high(axis) - 1),
         ),
         ("point: on a high plane of the root", at(Cube::high)),

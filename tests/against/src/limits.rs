@@ -154,7 +154,7 @@ pub fn root_edges(random: &mut Random) -> Plan {
         _ => 0,
     };
     Plan {
-        label: "roots at their limits and beside",
+        label: "roots at and near their limits",
         root: Root { low, k, d },
         ..plan
     }

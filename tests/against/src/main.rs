@@ -50,7 +50,7 @@ fn settings(words: &[&str]) -> Result<(Setup, Sizes), String> {
         opens: 20_000,
         lookups: 20_000,
     };
-    let number = |text: &str| text.parse().map_err(|_| format!("{text}: no number"));
+    let number = |text: &str| text.parse().map_err(|_| format!("{text}: not a number"));
     for two in words.chunks(2) {
         match *two {
             ["checks", count] => sizes.checks = number(count)?,
@@ -59,7 +59,7 @@ fn settings(words: &[&str]) -> Result<(Setup, Sizes), String> {
             ["lookups", count] => sizes.lookups = number(count)?,
             ["seed", seed] => setup.seed = number(seed)?,
             ["library", name] => setup.library = name.into(),
-            _ => return Err(format!("not known: {}", two.join(" "))),
+            _ => return Err(format!("unknown: {}", two.join(" "))),
         }
     }
     Ok((setup, sizes))
@@ -68,12 +68,12 @@ fn settings(words: &[&str]) -> Result<(Setup, Sizes), String> {
 fn run(words: &[&str]) -> Result<bool, String> {
     match *words {
         ["replay", text, ref rest @ ..] => {
-            let bytes = case::of_hex(text).ok_or("replay: no hex")?;
-            let case = case::Case::of_request(&bytes).ok_or("replay: no case")?;
+            let bytes = case::of_hex(text).ok_or("replay: not hex")?;
+            let case = case::Case::of_request(&bytes).ok_or("replay: not a case")?;
             checks::replay(&settings(rest)?.0, &case)
         }
         ["case", group, number, ref rest @ ..] => {
-            let number = number.parse().map_err(|_| "case: no number")?;
+            let number = number.parse().map_err(|_| "case: not a number")?;
             let (setup, sizes) = settings(rest)?;
             checks::one_case(&setup, &sizes, group, number)
         }

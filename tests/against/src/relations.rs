@@ -91,7 +91,7 @@ impl Held {
             0 => !(1..=5).contains(&reply.code),
             _ => *reply == checked,
         });
-        self.expect(case, holds, "zone_check answers otherwise of the sheet");
+        self.expect(case, holds, "zone_check disagrees about the sheet");
     }
 
     /// A lookup with a good sheet refuses a map that does not open, at the same offset or an earlier one. It refuses a
@@ -110,7 +110,7 @@ impl Held {
                 (0, _) => true,
                 (_, code) => code == 9 && reply.number <= opened.number,
             });
-        self.expect(case, holds, "zone_open answers otherwise of the map");
+        self.expect(case, holds, "zone_open disagrees about the map");
     }
 
     /// A map that was built opens with as many leaves as it has.
@@ -118,7 +118,7 @@ impl Held {
         self.maps_built += 1;
         let leaves = (length - HEADER as u64) / LEAF as u64;
         let holds = (opened.code, opened.number) == (0, leaves);
-        self.expect(case, holds, "zone_open answers otherwise of the built map");
+        self.expect(case, holds, "zone_open disagrees about the built map");
     }
 }
 

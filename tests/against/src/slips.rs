@@ -104,7 +104,7 @@ const OF_OPENING: [(&str, Make, Wrong); 9] = [
 const OF_LOOKING: [(&str, Make, Wrong); 8] = [
     ("the high planes are in the root", LOOKING, high_planes),
     ("class 3 not turned over", LOOKING, not_turned),
-    ("leaves opened before faces are asked", LOOKING, faces_last),
+    ("faces tested after all leaves", LOOKING, faces_last),
     (
         "a map's length may be less than the slice",
         LOOKING,

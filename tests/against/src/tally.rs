@@ -130,15 +130,15 @@ impl Tally {
 
     /// Prints the number of calls of each sort, one per line.
     pub fn print_sorts(&self) {
-        println!("  calls by what they were made as:");
+        println!("  calls by how they were made:");
         print_counted(&self.labels);
-        println!("  builds by what they have, and points by where they are:");
+        println!("  features of the builds and points:");
         print_counted(&self.features);
     }
 
     /// Prints the outcomes of the calls.
     pub fn print_outcomes(&self) {
-        println!("  what came of them:");
+        println!("  outcomes of the calls:");
         for call in CALLS {
             let codes = list(&self.codes[call as usize]);
             println!("    {} by code, 0 to 11: {codes}", call.name());

@@ -1,4 +1,4 @@
--- Coordinates, sides and a face's bounds in the machine: each number is read back from its bits as it was.
+-- Coordinates, sides and a face's bounds in the machine: each number is read back from its bits unchanged.
 use mathlib.Core.Path.{_≡_}
 use mathlib.Core.Bool.{true, false}
 use Prim.Native.Nat.{ℕ, _<_, _^_}

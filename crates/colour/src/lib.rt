@@ -16,7 +16,7 @@ pub enum State {
     Mixed,
 }
 
-// The bounds of the first `count` records over a cube, held together. The places after them hold zeros.
+// The bounds of the first `count` records over a cube, held together. The rest of both arrays is zeros.
 pub struct Bounds {
     pub low: [i64; 256],
     pub high: [i64; 256],

@@ -15,7 +15,7 @@ isSmall z = leb (natAbs z) (2 ^ 60)
 unfoldable pub isWithin : Interval → Bool
 isWithin i = isSmall (i .low) && isSmall (i .high)
 
--- the one place where an interval is tested against the limit
+-- the one test of an interval against the limit
 unfoldable pub boundedOf : Interval → Bounded
 boundedOf i = cond (isWithin i) (Within i) Past
 

@@ -1,4 +1,4 @@
--- At which byte each number of a map is. `Trip` says that what was written is read back, but not where it is.
+-- The byte at which each number of a map starts. `Trip` says that what was written is read back, but not where it is.
 use mathlib.Core.Path.{_≡_, refl, ap, _∙_}
 use mathlib.Core.Bool.{true}
 use mathlib.Core.List.{List, [], _∷_, _++_}

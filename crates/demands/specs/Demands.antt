@@ -24,7 +24,7 @@ use Rattle.demands.specs.Rows.{AllHold, elevenRows}
 -- 1. Every sheet, root cube, depth, map and position gets an answer. A bad one gets the refusal in document 01, in its stated order, without any check by the
 -- caller, and the map buffer is then unchanged.
 pub record Demand1 : Type 0 where
-  -- A contract is one equation: the outcome is what a definition gives. So exactly one reply meets it, or exactly one reply with every byte of the buffer.
+  -- A contract is one equation: the outcome is what a definition gives for the inputs. So exactly one reply, or one with every byte of the buffer, meets it.
   pub one-reply : (told : ZoneReply) → ExactlyOne (λ (r : ZoneReply). r ≡ told)
   pub one-outcome : (told : ZoneOutcome) → ExactlyOne (λ (o : ZoneReply × List ℕ). zoneOutcome (o .0) (o .1) ≡ told)
   -- code 0 exactly if no row of the table refuses, with the number of records, the map's length, the number of leaves, or what the leaf says (demand 2)

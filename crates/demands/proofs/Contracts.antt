@@ -9,11 +9,15 @@ use denote.Triple.Clauses.{Ended}
 use denote.Triple.Entry.{Args}
 use Rattle.demands.specs.Contract.{Fact, just, Contract}
 use Rattle.sheet.specs.Check.{checkOf}
+use Rattle.zonemap.specs.Opening.{openOf}
 use Rattle.building.specs.Build.{outcome, buildOf}
+use Rattle.pair.specs.Pairs.{openedOf}
 use Rattle.lookup.specs.Lookup.{lookupOf}
 use Rattle.zone.specs.Replies.{zoneCheckOf, zoneOutcome, zoneBuildOf, zoneOpenOf, zoneLookupOf}
 use Rattle.sheet.proofs.check
+use Rattle.zonemap.proofs.open as open-map
 use Rattle.building.proofs.build
+use Rattle.pair.proofs.open as open-pair
 use Rattle.lookup.proofs.lookup
 use Rattle.zone.proofs.zone_check
 use Rattle.zone.proofs.zone_build
@@ -28,6 +32,16 @@ asks-nothing 𝓤 T says κs entry had = top 𝓤 had
 pub check-is : Contract check.ended (λ M. check.clauses) check.Symbol.routine
     (λ _ s r. r ≡ checkOf (now s))
 check-is = record { written = λ 𝓤 H A mem run. refl; met = check.Met.met }
+
+-- zonemap::open
+pub open-is : Contract open-map.ended (λ M. open-map.clauses) open-map.Symbol.routine
+    (λ _ map r. r ≡ openOf (now map))
+open-is = record { written = λ 𝓤 H A mem run. refl; met = open-map.Met.met }
+
+-- pair::open
+pub pair-is : Contract open-pair.ended (λ M. open-pair.clauses) open-pair.Symbol.routine
+    (λ _ sheet map p r. r ≡ openedOf (now sheet) (now map) p)
+pair-is = record { written = λ 𝓤 H A mem run. refl; met = open-pair.Met.met }
 
 -- building::build
 pub build-is : Contract build.ended (λ M. build.clauses) build.Symbol.routine

@@ -13,6 +13,7 @@ pub struct Pair {
     pub at: usize,
 }
 
+// A pair, or the first refusal of the sheet and the map.
 pub enum Opened {
     Good(Pair),
     Refused(Refusal),

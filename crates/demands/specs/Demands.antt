@@ -34,7 +34,7 @@ pub record Demand1 : Type 0 where
   pub looks-up : (sheet map : List ℕ) (p : Point) → DoneWhere (CanLookUp sheet map p) (zoneLookupOf sheet map p) (zoneLookupOf sheet map p .number)
   -- each refusal, by its code and its number, in the order of the table
   pub refuses : Table
-  -- a sheet that zone_check refuses is refused by every call with the same code and number
+  -- a sheet that zone_check refuses is refused by every call that takes it, with the same code and number
   pub build-refused : (sheet : List ℕ) → (zoneCheckOf sheet .code ≡ 0 → ⊥) → (root : Root) (before : List ℕ) → zoneBuildOf sheet root before ≡ zoneOutcome (zoneCheckOf sheet) before
   pub lookup-refused : (sheet : List ℕ) → (zoneCheckOf sheet .code ≡ 0 → ⊥) → (map : List ℕ) (p : Point) → zoneLookupOf sheet map p ≡ zoneCheckOf sheet
   -- a refusal leaves the buffer unchanged

@@ -30,7 +30,7 @@ use Rattle.zonemap.specs.declared.Found.{Found}
 use Rattle.zonemap.specs.declared.Found.the-variants.{At as FoundAt, Bad}
 use Rattle.zonemap.specs.Opening.{rootOf, leafIn, leavesIn, leavesOf, faceGood, leafGood, sizeOf, leavesFault, headerFault, faultOf, anyFace, openOf, leafAt, offsetAt, placeOrFirst, foundOf}
 use Rattle.zonemap.specs.Inner.{marked}
-use Rattle.zonemap.proofs.Finding.{leaves-count, header-sizes, opens-sizes}
+use Rattle.zonemap.proofs.Finding.{header-sizes, opens-sizes}
 
 -- ---- what `read_header` returned
 header-clash : (n : ℕ) (r : Root) → BadHeader n ≡ GoodHeader r → ⊥
@@ -163,9 +163,9 @@ module _ (map : List ℕ) (bytes : (i : ℕ) → Fits w8 (getD map i 0)) where
     pub opened-long : (root : Root) (at : ℕ) → o ≡ FoundAt root at → 19 ≤ length map
     opened-long root at k = opens-sizes (marked (replicate 256 1)) map (found-good (marked (replicate 256 1)) map p o e root at k .0) .0
 
-    pub opened : (root : Root) (at : ℕ) → o ≡ FoundAt root at → Done ((length map - 19) / 3) ≡ openOf map
+    pub opened : (root : Root) (at : ℕ) → o ≡ FoundAt root at → (n : ℕ) → n ≡ length (leavesOf map) → Done n ≡ openOf map
     unfolding openOf
-    opened root at k = rw (sym same-fault ∙ found-good (marked (replicate 256 1)) map p o e root at k .0) (ap Done (sym (leaves-count map ((length map - 19) / 3) 19)))
+    opened root at k n is = rw (sym same-fault ∙ found-good (marked (replicate 256 1)) map p o e root at k .0) (ap Done is)
 
     pub not-opened : (at : ℕ) → o ≡ Bad at → Refused (Map at) ≡ openOf map
     unfolding openOf

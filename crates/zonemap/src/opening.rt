@@ -17,6 +17,7 @@ use crate::Found;
 use crate::Header;
 use crate::Leaf;
 use crate::Scanned;
+use crate::walking;
 use cube::Point;
 use cube::Root;
 use replies::Refusal;
@@ -222,7 +223,7 @@ pub fn open(map: &[u8]) -> Reply
     let every_face = [1u8; 256];
     match find(map, &every_face, Point { x: 0, y: 0, z: 0 }) {
         Found::At(_, _) => {
-            return Reply::Done((map.len() - crate::HEADER) / 3);
+            return Reply::Done(walking::leaf_count(map));
         }
         Found::Bad(at) => {
             return Reply::Refused(Refusal::Map(at));

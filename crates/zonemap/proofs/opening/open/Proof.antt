@@ -13,8 +13,8 @@ find-requires c κs = search needs
 enum-told : tie.Need-enum-told
 enum-told c = search needs
 
-sub-t9 : tie.Need-sub-t9
-sub-t9 c = search (needs, opened-long)
+leaf-count-requires : tie.Need-leaf-count-requires
+leaf-count-requires c κs = search (needs, opened-long)
 
 returns : tie.Need-returns
 returns c = search (needs, opened)
@@ -28,4 +28,11 @@ returns-2 c = search (needs, not-opened)
 pub open-spec : {M : Type 1} → statement M
 open-spec =
     tie.close
-    (tie.spec slice-aggregate-find find-requires enum-told sub-t9 returns enum-known-at returns-2)
+    (tie.spec
+    slice-aggregate-find
+    find-requires
+    enum-told
+    leaf-count-requires
+    returns
+    enum-known-at
+    returns-2)

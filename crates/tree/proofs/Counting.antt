@@ -1,25 +1,27 @@
 -- Counting the leaves below a cube, as the recursion does it: a cube that is not split is one leaf, otherwise one child after the other.
 use mathlib.Core.Path.{_≡_, sym, ap, _∙_}
-use mathlib.Core.Bool.{false}
-use mathlib.Core.List.{List}
-use Prim.Native.Nat.{ℕ, _+_, _-_, _^_, _≤_, _<_}
+use mathlib.Core.List.{List, [], _∷_}
+use Prim.Native.Nat.{ℕ, _+_, _-_, _≤_, _<_}
 use native.Mathlib.Omega.{arith}
 use lib.ListN.{length}
+use mir.Syntax.{w64}
+use mir.Val.{Fits}
 use Rattle.sheet.specs.declared.Record.{Record}
 use Rattle.cube.specs.declared.Cube.{Cube}
+use Rattle.cube.specs.Limits.{Near}
 use Rattle.cube.specs.Cubes.{childOf}
 use Rattle.tree.specs.Visit.{upto}
-use Rattle.tree.specs.Solid.{isGray, leavesBelow}
+use Rattle.tree.specs.Solid.{leafOf, leavesBelow}
 use Rattle.tree.proofs.Visits.{upto-none, upto-length, upto-most}
-use Rattle.tree.proofs.Cubes.{kidLeaves, kid-leaves, leaves-split, leaves-end, leaves-flat, leaves-few, Split}
+use Rattle.tree.proofs.Cubes.{kidLeaves, kid-leaves, leaves-split, leaves-end, leaves-few, Split}
 
 -- a cube that is not split
 module _ (rs : List Record) (left : ℕ) (q : Cube) where
   pub one-end : left ≡ 0 → 1 ≡ length (leavesBelow rs left q)
   one-end h = sym (ap length (leaves-end rs left q h))
 
-  pub one-flat : isGray rs q ≡ false → 1 ≡ length (leavesBelow rs left q)
-  one-flat h = sym (ap length (leaves-flat rs left q h))
+  pub one-flat : leavesBelow rs left q ≡ leafOf rs q ∷ [] → 1 ≡ length (leavesBelow rs left q)
+  one-flat h = sym (ap length h)
 
 -- the loop's invariant: k of the children were counted
 pub record Counting (rs : List Record) (left : ℕ) (q : Cube) (total k : ℕ) : Type 0 where
@@ -45,8 +47,9 @@ module _ (rs : List Record) (left : ℕ) (q : Cube) (total k : ℕ) (w : Countin
         let f : n ≡ length (kidLeaves rs left q k) = e ∙ ap (λ (c : Cube). length (leavesBelow rs (left - 1) c)) is ∙ ap length (sym (kid-leaves rs left q k)) in
         omega (arith, w .same, f, upto-length (kidLeaves rs left q) k)
 
-    pub counting-room : left ≤ 10 → total + n ≤ 2 ^ 30
-    counting-room t = omega (arith, next-is, upto-most (kidLeaves rs left q) (k + 1) 8 (omega arith), ap length all, leaves-few rs left q t)
+    pub counting-fits : Near left q → Fits w64 (total + n)
+    counting-fits near =
+        record { fits = omega (arith, next-is, upto-most (kidLeaves rs left q) (k + 1) 8 (omega arith), ap length all, leaves-few rs left q (omega (arith, near .deep))) }
 
     pub counting-next : Counting rs left q (total + n) (k + 1)
     counting-next = record { split = w .split; few = omega arith; same = next-is }

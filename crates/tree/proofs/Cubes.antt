@@ -1,19 +1,21 @@
 -- What a cube and its children contribute; and if no record passes the limit over a cube, none does over a smaller one.
 use mathlib.Core.Path.{_≡_, refl, sym, ap, _∙_}
-use mathlib.Core.Bool.{true, false}
+use mathlib.Core.Bool.{true, false, not}
 use mathlib.Core.List.{List, [], _∷_, _++_}
 use Prim.Native.Nat.{ℕ, zero, suc, _+_, _-_, _^_, _≤_, _<_}
 use native.Mathlib.Nat.{zero-lt-suc, le-trans, pow-le-pow-right}
 use native.Mathlib.Numerals.{sub-one}
 use native.Mathlib.Omega.{arith}
-use borrow.Author.Tests.{ne-eqb}
+use borrow.Author.Tests.{not-true, not-false, eqb-true, eqb-false, ne-eqb}
+use lib.Dec.{eqb}
 use lib.ListN.{length, getD}
 use Rattle.integers.proofs.Order.{by-test}
 use Rattle.sheet.specs.declared.Record.{Record}
 use Rattle.cube.specs.declared.Cube.{Cube}
+use Rattle.cube.specs.Limits.{Near}
 use Rattle.cube.specs.Cubes.{childOf}
 use Rattle.zonemap.specs.declared.Leaf.{Leaf}
-use Rattle.cube.proofs.Cubes.{child-inside}
+use Rattle.cube.proofs.Cubes.{near-fewer, child-near, child-inside}
 use Rattle.colour.specs.declared.State.{State}
 use Rattle.colour.specs.declared.Judged.{Judged}
 use Rattle.colour.specs.declared.Judged.the-variants.{Known, Past}
@@ -99,17 +101,39 @@ module _ (rs : List Record) where
     known-state state k =
         known-is rs q q refl solid j e state k ∙ ap (λ (n : ℕ). getD (entries q rs) n blank .state) (let z : solid ≡ length rs - 1 = omega arith in z)
 
-    pub not-past : firstPast rs q ≡ [] → (n : ℕ) → j ≡ Past n → ⊥
-    not-past none n k =
+    -- so the other case does not come
+    pub not-past : firstPast rs q ≡ [] → (n : ℕ) → j ≡ Past n → (state : State) → state ≡ solidState rs q
+    not-past none n k state =
         let z : [] ≡ n ∷ [] = sym none ∙ past-first rs q q refl solid j e n k in
-        let y : _≡_ {A = ℕ} 0 1 = ap length z in omega arith
+        let y : _≡_ {A = ℕ} 0 1 = ap length z in absurd (omega arith)
 
-  -- its class says whether it is gray
-  module _ (q : Cube) (state : State) (is : state ≡ solidState rs q) (class : ℕ) (of : class ≡ classOf state) where
-    pub gray-is : class ≡ 4 → isGray rs q ≡ true
+  -- its class tells whether it is split
+  module _ (q : Cube) (state : State) (is : state ≡ solidState rs q) (class : ℕ) (of : class ≡ classOf state) (left : ℕ) where
+    pub split-is : (left ≡ 0 → ⊥) → class ≡ 4 → Split rs left q
     unfolding isGray
-    gray-is h = rw (← is, ← of, h)
+    split-is deep h = record { deep = omega arith; gray = rw (← is, ← of, h) }
 
-    pub flat-is : (class ≡ 4 → ⊥) → isGray rs q ≡ false
+    pub split-else : (left ≡ 0 → ⊥) → not (eqb class 4) ≡ false → Split rs left q
+    split-else deep h = split-is deep (eqb-true class 4 (not-false _ h))
+
+    pub flat-is : (class ≡ 4 → ⊥) → leavesBelow rs left q ≡ leafOf rs q ∷ []
     unfolding isGray
-    flat-is h = rw (← is, ← of) (ne-eqb class 4 h)
+    flat-is h = leaves-flat left q (rw (← is, ← of) (ne-eqb class 4 h))
+
+    pub flat-else : not (eqb class 4) ≡ true → leavesBelow rs left q ≡ leafOf rs q ∷ []
+    flat-else h = flat-is (eqb-false class 4 (not-true _ h))
+
+-- ---- what the recursion requires of the cube and of its children
+module _ (left : ℕ) (q : Cube) (near : Near left q) where
+  pub near-judged : Near 0 q
+  near-judged = near-fewer left 0 q near (omega arith)
+
+  module _ (deep : 0 < left) where
+    pub near-split : Near 1 q
+    near-split = near-fewer left 1 q near deep
+
+    pub near-child : (k : ℕ) → k < 8 → (child : Cube) → child ≡ childOf q k → Near (left - 1) child
+    near-child k l child is = rw is (child-near left q k near deep l)
+
+pub none-child : (rs : List Record) (q : Cube) → firstPast rs q ≡ [] → (k : ℕ) (child : Cube) → child ≡ childOf q k → firstPast rs child ≡ []
+none-child rs q none k child is = rw is (child-none rs q none k)

@@ -10,6 +10,7 @@ use Rattle.sheet.specs.declared.Record.{Record}
 use Rattle.cube.specs.declared.Cube.{Cube}
 use Rattle.cube.specs.Cubes.{childOf}
 use Rattle.colour.specs.declared.State.{State}
+use Rattle.colour.specs.States.{classOf, faceOf}
 use Rattle.zonemap.specs.declared.Leaf.{Leaf}
 use Rattle.zonemap.specs.Map.{leafBytes, leavesBytes}
 use Rattle.zonemap.proofs.Bytes.{leaves-bytes-length, leaves-bytes-append}
@@ -22,14 +23,21 @@ use Rattle.tree.proofs.Cubes.{kidLeaves, kid-leaves, leaves-split, Spli
 abbrev Put : List Leaf → List ℕ → ℕ → ℕ → List ℕ → Type 0
 Put ls d at r out = (r ≡ at + 3 * length ls) × (out ≡ sets d at (leavesBytes ls))
 
+-- the leaf of a state, by what `class` and `face` returned
+pub leaf-by : (level : ℕ) (state : State) (class face : ℕ) → class ≡ classOf state → face ≡ faceOf state → (d : List ℕ) (at : ℕ) (out : List ℕ) → out ≡ sets d at (leafBytes (record { level = level; class = class; face = face })) → out ≡ sets d at (leafBytes (leafBy level state))
+leaf-by level state class face c f d at out h = rw (c, f) at h
+
 -- ---- a cube that is not split
 module _ (rs : List Record) (left : ℕ) (q : Cube) (one : leavesBelow rs left q ≡ leafOf rs q ∷ []) (at : ℕ) where
   pub leaf-room : (m : ℕ) → at + 3 * length (leavesBelow rs left q) ≤ m → at + 3 ≤ m
   leaf-room m h = omega (arith, ap length one)
 
-  pub leaf-put : (state : State) → state ≡ solidState rs q → (d out : List ℕ) (r : ℕ) → (r ≡ at + 3) × (out ≡ sets d at (leafBytes (leafBy (q .level) state))) → Put (leavesBelow rs left q) d at r out
+  pub leaf-after : (r : ℕ) → r ≡ at + 3 → r ≡ at + 3 * length (leavesBelow rs left q)
+  leaf-after r h = rw one (omega arith)
+
+  pub leaf-put : (state : State) → state ≡ solidState rs q → (d out : List ℕ) → out ≡ sets d at (leafBytes (leafBy (q .level) state)) → out ≡ sets d at (leavesBytes (leavesBelow rs left q))
   unfolding leafOf leavesBytes leafBytes
-  leaf-put state s d out r h = rw (one, ← s) (omega (arith, h .0), h .1)
+  leaf-put state s d out h = rw (one, ← s) h
 
 -- ---- the loop's invariant: k of the children were written
 pub record Writing (rs : List Record) (left : ℕ) (q : Cube) (d : List ℕ) (at : ℕ) (out : List ℕ) (next k : ℕ) : Type 0 where
@@ -67,8 +75,8 @@ module _ (rs : List Record) (left : ℕ) (q : Cube) (d : List ℕ) (at : ℕ) (o
     child-room h =
         omega (arith, w .place, writing-length, ap length leaves-are, upto-length kids k, upto-most kids (k + 1) 8 (omega arith), ap length all)
 
-    pub writing-next : (r : ℕ) (after : List ℕ) → Put (leavesBelow rs (left - 1) child) out next r after → Writing rs left q d at after r (k + 1)
-    writing-next r after h =
+    next-is : (r : ℕ) (after : List ℕ) → Put (leavesBelow rs (left - 1) child) out next r after → Writing rs left q d at after r (k + 1)
+    next-is r after h =
         let p : Put (kids k) out next r after = rw leaves-are at h in
         record {
           split = w .split;
@@ -80,3 +88,8 @@ module _ (rs : List Record) (left : ℕ) (q : Cube) (d : List ℕ) (at : ℕ) (o
               ∙ sets-append d at next (leavesBytes (upto kids k)) (leavesBytes (kids k)) (omega (arith, w .place, leaves-bytes-length (upto kids k)))
               ∙ ap (sets d at) (sym (leaves-bytes-append (upto kids k) (kids k)) ∙ ap leavesBytes (sym (upto-more kids k)));
         }
+
+-- the leaves of one child more: what `write` returned comes first, so that `search` can be handed it
+pub writing-next : (rs : List Record) (left : ℕ) (child : Cube) (out : List ℕ) (next r : ℕ) (after : List ℕ) → Put (leavesBelow rs (left - 1) child) out next r after
+    → (q : Cube) (d : List ℕ) (at k : ℕ) → Writing rs left q d at out next k → k < 8 → child ≡ childOf q k → Writing rs left q d at after r (k + 1)
+writing-next rs left child out next r after h q d at k w more is = next-is rs left q d at out next k w more child is r after h

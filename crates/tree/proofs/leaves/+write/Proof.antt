@@ -2,12 +2,10 @@
 use borrow.Author.Needs.{needs}
 use native.Mathlib.Omega.{arith}
 use Prim.Native.Nat.{_-_}
-use borrow.Author.Tests.{not-true, not-false, eqb-true, eqb-false}
 use mathlib.Core.Logic.{⊎-elim}
 use Rattle.sheet.specs.Records.{recordsOf}
-use Rattle.cube.proofs.Cubes.{near-fewer, child-near}
-use Rattle.tree.proofs.Cubes.{gray-is, flat-is, child-none, leaves-end, leaves-flat}
-use Rattle.tree.proofs.Stores.{leaf-room, leaf-put, Writing, writing-start, writing-length, writing-all, child-room, writing-next}
+use Rattle.tree.proofs.Cubes.{split-else, flat-else, leaves-end, near-judged, near-split, near-child, none-child}
+use Rattle.tree.proofs.Stores.{leaf-room, leaf-after, leaf-put, Writing, writing-start, writing-length, writing-all, child-room, writing-next}
 use Prim.Native.Nat.{ℕ, _<_}
 use borrow.Fn.Kinds.{In}
 use borrow.Fn.PlainCycle.{Measures, is, falls, and}
@@ -41,47 +39,40 @@ abbrev write-μ-loop : write-lts.MeasureT-loop
 write-μ-loop s offsets out₀ at solid q left class next₀ k₀ out next k = 8 - k
 
 write-solid-state-requires : (t : ℕ) → write-lts.Need-solid-state-requires (write-calls t) (write-at t) write.Post write-Inv-loop write-μ-loop
-write-solid-state-requires t c κs =
-    (c .before .before .before .pre .1 .0, (c .before .before .before .pre .1 .1 .0, (near-fewer _ 0 _ (c .before .before .before .pre .1 .1 .1 .0) (omega arith), c .before .before .before .pre .1 .1 .1 .1 .0)))
+write-solid-state-requires t c κs = search (needs, near-judged)
 
 write-class-requires : (t : ℕ) → write-lts.Need-class-requires (write-calls t) (write-at t) write.Post write-Inv-loop write-μ-loop
 write-class-requires t c κs = search needs
 
 write-put-requires : (t : ℕ) → write-lts.Need-put-requires (write-calls t) (write-at t) write.Post write-Inv-loop write-μ-loop
-write-put-requires t c κs =
-    leaf-room _ _ _ (⊎-elim (λ t. leaves-end _ _ _ (t .taken)) (λ t. leaves-flat _ _ _ (flat-is _ _ _ (c .before .before .before .solid-state .ensures) _ (c .before .before .class .ensures) (eqb-false _ 4 (not-true _ (t .1 .taken))))) (c .before .if1 .came)) _ _ (c .before .before .before .before .before .before .before .pre .1 .1 .1 .1 .1)
+write-put-requires t c κs = ⊎-elim (λ t. search (needs, leaf-room, leaves-end)) (λ t. search (needs, leaf-room, flat-else)) (c .before .if1 .came)
 
 write-same-length : (t : ℕ) → write-lts.Need-same-length (write-calls t) (write-at t) write.Post write-Inv-loop write-μ-loop
 write-same-length t c = search needs
 
 write-returns : (t : ℕ) → write-lts.Need-returns (write-calls t) (write-at t) write.Post write-Inv-loop write-μ-loop
-write-returns t c =
-    leaf-put _ _ _ (⊎-elim (λ t. leaves-end _ _ _ (t .taken)) (λ t. leaves-flat _ _ _ (flat-is _ _ _ (c .before .before .before .before .before .before .solid-state .ensures) _ (c .before .before .before .before .before .class .ensures) (eqb-false _ 4 (not-true _ (t .1 .taken))))) (c .before .before .before .before .if1 .came)) _ _ (c .before .before .before .before .before .before .solid-state .ensures) _ _ _ (c .before .before .put .ensures)
+write-returns t c = ⊎-elim (λ t. search (needs, leaf-after, leaf-put, leaves-end)) (λ t. search (needs, leaf-after, leaf-put, flat-else)) (c .before .before .before .before .if1 .came)
 
 write-loop-holds : (t : ℕ) → write-lts.Need-loop-holds (write-calls t) (write-at t) write.Post write-Inv-loop write-μ-loop
-write-loop-holds t c =
-    writing-start _ _ _ _ _ (record { deep = omega (arith, c .before .if1 .left); gray = gray-is _ _ _ (c .before .before .before .solid-state .ensures) _ (c .before .before .class .ensures) (eqb-true _ 4 (not-false _ (c .if2 .left))) })
+write-loop-holds t c = search (needs, writing-start, split-else)
 
 write-child-requires : (t : ℕ) → write-lts.Need-child-requires (write-calls t) (write-at t) write.Post write-Inv-loop write-μ-loop
-write-child-requires t c κs =
-    (near-fewer _ 1 _ (c .before .before .before .before .before .before .before .before .before .pre .1 .1 .1 .0) (omega (arith, c .before .before .before .if1 .left)), c .loop-test .taken)
+write-child-requires t c κs = search (needs, near-split)
 
 write-sub-write : (t : ℕ) → write-lts.Need-sub-write (write-calls t) (write-at t) write.Post write-Inv-loop write-μ-loop
-write-sub-write t c = omega (arith, c .before .before .before .before .before .if1 .left)
+write-sub-write t c = omega arith
 
 write-write-requires : (t : ℕ) → write-lts.Need-write-requires (write-calls t) (write-at t) write.Post write-Inv-loop write-μ-loop
-write-write-requires t c κs =
-    (omega (arith, c .before .before .before .before .before .if1 .left), (c .before .before .before .before .before .before .before .before .before .before .before .pre .1 .0, (c .before .before .before .before .before .before .before .before .before .before .before .pre .1 .1 .0, (rw (c .before .child .ensures) (child-near _ _ _ (c .before .before .before .before .before .before .before .before .before .before .before .pre .1 .1 .1 .0) (omega (arith, c .before .before .before .before .before .if1 .left)) (c .before .before .loop-test .taken)), (rw (c .before .child .ensures) (child-none _ _ (c .before .before .before .before .before .before .before .before .before .before .before .pre .1 .1 .1 .1 .0) _), child-room _ _ _ _ _ _ _ _ (c .before .before .before .loop .inv) (c .before .before .loop-test .taken) _ (c .before .child .ensures) (c .before .before .before .before .before .before .before .before .before .before .before .pre .1 .1 .1 .1 .1))))))
+write-write-requires t c κs = (omega arith, (search needs, (search needs, (search (needs, near-child), (search (needs, none-child), search (needs, child-room))))))
 
 write-add-k : (t : ℕ) → write-lts.Need-add-k (write-calls t) (write-at t) write.Post write-Inv-loop write-μ-loop
 write-add-k t c = omega arith
 
 write-loop-less : (t : ℕ) → write-lts.Need-loop-less (write-calls t) (write-at t) write.Post write-Inv-loop write-μ-loop
-write-loop-less t c = omega (arith, c .before .before .before .before .before .loop-test .taken)
+write-loop-less t c = omega arith
 
 write-loop-again : (t : ℕ) → write-lts.Need-loop-again (write-calls t) (write-at t) write.Post write-Inv-loop write-μ-loop
-write-loop-again t c =
-    writing-next _ _ _ _ _ _ _ _ (c .before .before .before .before .before .before .loop .inv) (c .before .before .before .before .before .loop-test .taken) _ (c .before .before .before .before .child .ensures) _ _ (c .before .before .write .ensures)
+write-loop-again t c = search (needs, writing-next _ _ _ _ _ _ _ (c .before .before .write .ensures))
 
 write-same-length-2 : (t : ℕ) → write-lts.Need-same-length-2 (write-calls t) (write-at t) write.Post write-Inv-loop write-μ-loop
 write-same-length-2 t c = writing-length _ _ _ _ _ _ _ _ (c .before .loop .inv)

@@ -1,4 +1,5 @@
 -- `tree::leaves::put` meets its contract.
+use Rattle.tree.proofs.Stores.{leaf-by}
 use borrow.Author.Needs.{needs}
 use Rattle.tree.proofs.leaves.put.Statement.{statement}
 use Rattle.tree.proofs.leaves.put.Tie as tie
@@ -16,8 +17,7 @@ same-length : tie.Need-same-length
 same-length c = search needs
 
 returns : tie.Need-returns
-returns c =
-    rw (c .before .before .before .before .before .class .ensures, c .before .before .before .before .face .ensures) at (c .before .before .put-leaf .ensures)
+returns c = (search needs, search (needs, leaf-by))
 
 pub put-spec : {M : Type 1} → statement M
 put-spec = tie.close (tie.spec class-requires face-requires put-leaf-requires same-length returns)

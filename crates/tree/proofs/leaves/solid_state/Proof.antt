@@ -17,12 +17,10 @@ enum-told : tie.Need-enum-told
 enum-told c = search needs
 
 returns : tie.Need-returns
-returns c =
-    known-state _ _ _ (c .before .before .before .before .before .before .pre .1 .0) _ (c .before .before .before .judge .ensures) _ (c .before .state .given .1)
+returns c = search (needs, known-state)
 
 returns-2 : tie.Need-returns-2
-returns-2 c =
-    absurd (not-past _ _ _ (c .before .before .before .before .before .pre .1 .0) _ (c .before .before .judge .ensures) (c .before .before .before .before .before .pre .1 .1 .1) _ (c .enum-told .given .1))
+returns-2 c = search (needs, not-past)
 
 pub solid-state-spec : {M : Type 1} → statement M
 solid-state-spec =

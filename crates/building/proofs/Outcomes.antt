@@ -1,11 +1,15 @@
--- The outcome of building at each test.
+-- The outcome of building at each test, and what the functions on the way require.
 use mathlib.Core.Path.{_≡_, sym, ap, _∙_}
-use mathlib.Core.Bool.{true, false}
-use mathlib.Core.List.{List, [], _∷_}
-use Prim.Native.Nat.{ℕ, _+_, _*_, _^_, _≤_, _<_}
+use mathlib.Core.Bool.{Bool, true, false, not}
+use mathlib.Core.List.{List, []}
+use Prim.Native.Nat.{ℕ, _+_, _-_, _*_, _^_, _≤_, _<_}
 use native.Mathlib.Nat.{zero-add}
 use native.Mathlib.Omega.{arith}
-use borrow.Author.Tests.{lt-ltb, le-ltb}
+use borrow.Author.Tests.{not-true, not-false, lt-ltb, le-ltb}
+use lib.IntN.{ℤ}
+use mir.Syntax.{w8, w32, w64}
+use mir.Val.{Fits, SFits, toZ, ofZ}
+use mir.Facts.{toZ-ofZ}
 use lib.ListN.{length}
 use lib.Seq.{sets, sets-eq, length-sets}
 use Rattle.integers.proofs.Stores.{sets-append}
@@ -16,12 +20,18 @@ use Rattle.replies.specs.declared.Reply.the-variants.{Done, Refused}
 use Rattle.sheet.specs.declared.Record.{Record}
 use Rattle.sheet.specs.Records.{recordsOf}
 use Rattle.sheet.specs.Check.{checkOf}
+use Rattle.sheet.proofs.Good.{records-few, good-count, good-some}
 use Rattle.cube.specs.declared.Root.{Root}
 use Rattle.cube.specs.declared.Cube.{Cube}
-use Rattle.cube.specs.Limits.{inLimits}
+use Rattle.cube.specs.Limits.{inLimits, Near}
 use Rattle.cube.specs.Cubes.{rootCube}
 use Rattle.cube.proofs.Limits.{limits-sizes}
-use Rattle.colour.specs.Entries.{firstPast}
+use Rattle.cube.proofs.Cubes.{root-near, near-fewer}
+use Rattle.colour.specs.declared.State.{State}
+use Rattle.colour.specs.declared.Judged.{Judged}
+use Rattle.colour.specs.declared.Judged.the-variants.{Known, Past}
+use Rattle.colour.specs.Entries.{judgedOf, firstPast}
+use Rattle.colour.proofs.Told.{known-none, past-first}
 use Rattle.zonemap.specs.declared.Leaf.{Leaf}
 use Rattle.zonemap.specs.Map.{headerOf, leavesBytes, mapOf}
 use Rattle.zonemap.proofs.Bytes.{header-length, map-length}
@@ -29,69 +39,110 @@ use Rattle.tree.specs.Solid.{leavesBelow}
 use Rattle.building.specs.Build.{Outcome, outcome, builtMap, storedOf, overRootOf, buildOf}
 use Rattle.tree.proofs.Cubes.{leaves-few, none-below}
 
--- ---- replies 1 to 5
-module _ (s : List ℕ) (root : Root) (d : List ℕ) (r : Reply) (e : r ≡ checkOf s) where
-  pub bad-sheet : (why : Refusal) → r ≡ Refused why → outcome (Refused why) d ≡ buildOf s root d
+-- ---- replies 1 to 5: r is what `check` returned
+module _ (s : List ℕ) (r : Reply) (e : r ≡ checkOf s) where
+  pub bad-sheet : (why : Refusal) → r ≡ Refused why → (root : Root) (d : List ℕ) → outcome (Refused why) d ≡ buildOf s root d
   unfolding buildOf
-  bad-sheet why h = rw (sym e ∙ h)
+  bad-sheet why h root d = rw (sym e ∙ h)
 
-  pub good-sheet : (n : ℕ) (o : Outcome) → r ≡ Done n → o ≡ overRootOf (recordsOf s) root d → o ≡ buildOf s root d
-  unfolding buildOf
-  good-sheet n o h k = rw (sym e ∙ h) k
+  module _ (n : ℕ) (h : r ≡ Done n) where
+    -- the number of the last record
+    pub last-is : n - 1 + 1 ≡ length (recordsOf s)
+    last-is = omega (arith, good-some s r e n h, good-count s r e n h)
 
--- ---- the number of leaves, and the room for them
-module _ (rs : List Record) (root : Root) where
-  pub count-few : inLimits root ≡ true → (n : ℕ) → n ≡ length (leavesBelow rs (root .d) (rootCube root)) → n ≤ 2 ^ 30
-  count-few within n count = rw count (leaves-few rs (root .d) (rootCube root) (limits-sizes root within .1))
+    pub last-fits : Fits w8 (n - 1)
+    last-fits = record { fits = omega (arith, last-is, records-few s) }
 
-  module _ (q : Cube) (is : q ≡ rootCube root) where
-    pub write-room : (n : ℕ) (d d₁ : List ℕ) → n ≡ length (leavesBelow rs (root .d) (rootCube root)) → 19 + 3 * n ≤ length d → d₁ ≡ sets d 0 (headerOf root n) → 19 + 3 * length (leavesBelow rs (root .d) q) ≤ length d₁
-    write-room n d d₁ count room header = rw (is, ← count, header, length-sets d 0 (headerOf root n)) room
+    -- the root as its corner is handed to the call, read back from its bits
+    pub good-sheet : (x y z : ℤ) → SFits w32 x → SFits w32 y → SFits w32 z → (k depth : ℕ) (d : List ℕ) (o : Outcome)
+        → o ≡ overRootOf (recordsOf s) (record { x = toZ w32 (ofZ w32 x); y = toZ w32 (ofZ w32 y); z = toZ w32 (ofZ w32 z); k = k; d = depth }) d
+        → o ≡ buildOf s (record { x = x; y = y; z = z; k = k; d = depth }) d
+    unfolding buildOf
+    good-sheet x y z fx fy fz k depth d o g = rw (sym e ∙ h) (rw (toZ-ofZ fx, toZ-ofZ fy, toZ-ofZ fz) at g)
 
-module _ (rs : List Record) (root : Root) (d : List ℕ) where
-  abbrev top : Cube
-  top = rootCube root
-
-  abbrev ls : List Leaf
-  ls = leavesBelow rs (root .d) top
-
-  -- ---- reply 6
-  pub outside : inLimits root ≡ false → outcome (Refused Limits) d ≡ overRootOf rs root d
+-- ---- reply 6: b is what `is_within` returned
+module _ (root : Root) (b : Bool) (e : b ≡ inLimits root) where
+  pub outside : not b ≡ true → (rs : List Record) (d : List ℕ) → outcome (Refused Limits) d ≡ overRootOf rs root d
   unfolding overRootOf
-  outside h = rw h
+  outside t rs d = rw (sym e ∙ not-true b t)
 
-  module _ (within : inLimits root ≡ true) where
-    -- ---- reply 7
-    pub over-root : (n : ℕ) → firstPast rs top ≡ n ∷ [] → outcome (Refused (OverRoot n)) d ≡ overRootOf rs root d
-    unfolding overRootOf
-    over-root n h = rw (within, h)
+  pub within : not b ≡ false → inLimits root ≡ true
+  within t = sym e ∙ not-false b t
 
-    -- ---- reply 11 is never given
-    pub no-smaller : firstPast rs top ≡ [] → (o : Outcome) → o ≡ storedOf (builtMap rs root) d → o ≡ overRootOf rs root d
-    unfolding overRootOf
-    no-smaller none o e = rw (within, none, none-below rs (root .d) top none) e
+-- ---- a root in its limits
+module _ (root : Root) (w : inLimits root ≡ true) where
+  pub root-small : root .k ≤ 16
+  root-small = limits-sizes root w .0
 
-    -- ---- reply 8, or the map
-    module _ (n : ℕ) (count : n ≡ length ls) where
-      length-is : length (builtMap rs root) ≡ 19 + 3 * n
-      unfolding builtMap
-      length-is = map-length root ls ∙ rw count
+  -- q is what `cube` returned
+  module _ (q : Cube) (is : q ≡ rootCube root) where
+    pub near-all : Near (root .d) q
+    near-all = rw is (root-near root w)
 
-      pub too-short : length d < 19 + 3 * n → outcome (Refused (Short (19 + 3 * n))) d ≡ storedOf (builtMap rs root) d
-      unfolding storedOf
-      too-short h = rw (length-is, lt-ltb (length d) (19 + 3 * n) h)
+    pub near-once : Near 0 q
+    near-once = near-fewer (root .d) 0 q near-all (omega arith)
 
-      module _ (d₁ d₂ : List ℕ) (header : d₁ ≡ sets d 0 (headerOf root n)) (leaves : d₂ ≡ sets d₁ 19 (leavesBytes ls)) where
-        stored : d₂ ≡ sets d 0 (builtMap rs root)
-        unfolding builtMap mapOf
-        stored =
-            leaves
-            ∙ ap (λ (x : List ℕ). sets x 19 (leavesBytes ls)) header
-            ∙ sets-append d 0 19 (headerOf root n) (leavesBytes ls) (omega (arith, header-length root n))
-            ∙ rw count
+    module _ (rs : List Record) where
+      -- ---- reply 7: j is what `judge` returned
+      module _ (solid : ℕ) (j : Judged) (e : j ≡ judgedOf rs q solid) where
+        pub over-root : (n : ℕ) → j ≡ Past n → (d : List ℕ) → outcome (Refused (OverRoot n)) d ≡ overRootOf rs root d
+        unfolding overRootOf
+        over-root n h d = rw (w, past-first rs (rootCube root) q is solid j e n h)
 
-        pub whole : 19 + 3 * n ≤ length d → outcome (Done (19 + 3 * n)) d₂ ≡ storedOf (builtMap rs root) d
+        -- ---- reply 11 does not come
+        pub no-smaller : (state : State) → j ≡ Known state → (d : List ℕ) (o : Outcome) → o ≡ storedOf (builtMap rs root) d → o ≡ overRootOf rs root d
+        unfolding overRootOf
+        no-smaller state h d o k =
+            let none = known-none rs (rootCube root) q is solid j e state h in
+            rw (w, none, none-below rs (root .d) (rootCube root) none) k
+
+      pub still-none : firstPast rs (rootCube root) ≡ [] → firstPast rs q ≡ []
+      still-none h = rw is h
+
+      -- ---- reply 8, and the map: n is what `count` returned
+      module _ (n : ℕ) (count : n ≡ length (leavesBelow rs (root .d) q)) where
+        pub count-few : n ≤ 2 ^ 30
+        count-few = rw count (leaves-few rs (root .d) q (limits-sizes root w .1))
+
+        pub count-fits : Fits w32 n
+        count-fits = record { fits = omega (arith, count-few) }
+
+        pub leaves-fit : Fits w64 (3 * n)
+        leaves-fit = record { fits = omega (arith, count-few) }
+
+        pub need-fits : Fits w64 (19 + 3 * n)
+        need-fits = record { fits = omega (arith, count-few) }
+
+        length-is : length (builtMap rs root) ≡ 19 + 3 * n
+        unfolding builtMap
+        length-is = map-length root _ ∙ rw (count, is)
+
+        pub too-short : (d : List ℕ) → length d < 19 + 3 * n → outcome (Refused (Short (19 + 3 * n))) d ≡ storedOf (builtMap rs root) d
         unfolding storedOf
-        whole h =
-            rw (length-is, le-ltb (length d) (19 + 3 * n) h)
-            (ap (outcome (Done (19 + 3 * n))) (stored ∙ sets-eq (builtMap rs root) d 0 (omega (arith, length-is)) ∙ rw (zero-add, length-is)))
+        too-short d h = rw (length-is, lt-ltb (length d) (19 + 3 * n) h)
+
+        -- top is what `cube` returned again
+        module _ (d : List ℕ) (room : 19 + 3 * n ≤ length d) (d₁ : List ℕ) (header : d₁ ≡ sets d 0 (headerOf root n)) (top : Cube) (same : top ≡ rootCube root) where
+          abbrev ls : List Leaf
+          ls = leavesBelow rs (root .d) top
+
+          count-is : n ≡ length ls
+          count-is = count ∙ rw (is, same)
+
+          pub write-room : 19 + 3 * length ls ≤ length d₁
+          write-room = rw (← count-is, header, length-sets d 0 (headerOf root n)) room
+
+          module _ (d₂ : List ℕ) (leaves : d₂ ≡ sets d₁ 19 (leavesBytes ls)) where
+            stored : d₂ ≡ sets d 0 (builtMap rs root)
+            unfolding builtMap mapOf
+            stored =
+                leaves
+                ∙ ap (λ (x : List ℕ). sets x 19 (leavesBytes ls)) header
+                ∙ sets-append d 0 19 (headerOf root n) (leavesBytes ls) (omega (arith, header-length root n))
+                ∙ rw (count-is, same)
+
+            pub whole : outcome (Done (19 + 3 * n)) d₂ ≡ storedOf (builtMap rs root) d
+            unfolding storedOf
+            whole =
+                rw (length-is, le-ltb (length d) (19 + 3 * n) room)
+                (ap (outcome (Done (19 + 3 * n))) (stored ∙ sets-eq (builtMap rs root) d 0 (omega (arith, length-is)) ∙ rw (zero-add, length-is)))

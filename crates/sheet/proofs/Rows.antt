@@ -7,8 +7,8 @@ use borrow.Author.Tests.{le-leb, lt-leb, ne-eqb}
 use lib.IntN.{ℤ, pos}
 use lib.ListN.{length, getD}
 use lib.Signed.{mag}
-use mir.Syntax.{w32}
-use mir.Val.{toZ, ofZ}
+use mir.Syntax.{w8, w32, w64}
+use mir.Val.{Fits, toZ, ofZ}
 use mir.Facts.{toZ-ofZ}
 use Rattle.bigendian.specs.Numbers.{signedAt}
 use Rattle.sheet.specs.declared.Record.{Record}
@@ -18,6 +18,15 @@ use Rattle.sheet.specs.declared.Row.the-variants.{Known, Unknown}
 use Rattle.sheet.specs.declared.Cursor.{Cursor}
 use Rattle.sheet.specs.declared.Read.the-variants.{Found, Refused}
 use Rattle.sheet.specs.Table.{rowOf, rowAt, readAt}
+
+-- ---- no row
+pub no-two : (kind a b : ℕ) → (kind ≡ 5 → ⊥) → (kind ≡ 6 → ⊥) → (kind ≡ 7 → ⊥) → (kind ≡ 17 → ⊥) → (kind ≡ 18 → ⊥) → Unknown ≡ rowOf 3 kind a b (pos 0)
+unfolding rowOf
+no-two kind a b e f g h i = rw (ne-eqb _ _ e, ne-eqb _ _ f, ne-eqb _ _ g, ne-eqb _ _ h, ne-eqb _ _ i)
+
+-- a byte as a number of 64 bits
+pub byte-fits : (n : ℕ) → Fits w8 n → Fits w64 n
+byte-fits n h = record { fits = omega (arith, h .fits) }
 
 -- ---- the row, by the count byte
 module _ (s : List ℕ) (at size : ℕ) (is : size ≡ getD s at 0) where

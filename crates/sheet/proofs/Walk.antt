@@ -8,6 +8,8 @@ use native.Mathlib.Omega.{arith}
 use borrow.Author.Tests.{leb-false}
 use lib.Dec.{eqb, leb}
 use lib.ListN.{length, getD, take, drop, length-drop}
+use mir.Syntax.{w64}
+use mir.Val.{Fits}
 use lib.Seq.{getD-drop, drop-drop, take-suc}
 use Rattle.sheet.specs.declared.Record.{Record}
 use Rattle.sheet.specs.declared.Row.{Row}
@@ -15,7 +17,7 @@ use Rattle.sheet.specs.declared.Row.the-variants.{Known, Unknown}
 use Rattle.sheet.specs.declared.Cursor.{Cursor}
 use Rattle.sheet.specs.declared.Read.{Read}
 use Rattle.sheet.specs.declared.Read.the-variants.{Found, Refused}
-use Rattle.sheet.specs.Table.{rowAt, onRow, readAt, isKnown, Stands}
+use Rattle.sheet.specs.Table.{rowAt, onRow, readAt, reachedOf, isKnown, Stands}
 use Rattle.sheet.specs.Records.{Reading, first, onRead, readFrom, start, reading, recordsOf, stopOf}
 
 -- ---- one read
@@ -75,11 +77,18 @@ pub at-start : (s : List ℕ) → At s start 0
 unfolding reading
 at-start s = record { total = refl; among = omega arith; rest = refl; stops = refl }
 
-module _ (s : List ℕ) (c : Cursor) (n : ℕ) (w : At s c n) where
-  module _ (r : Record) (next : Cursor) (e : readAt s c ≡ Found r next) where
+-- k is what `Cursor::read` returned
+module _ (s : List ℕ) (c : Cursor) (n : ℕ) (w : At s c n) (k : Read) (is : k ≡ readAt s c) where
+  module _ (r : Record) (next : Cursor) (e : k ≡ Found r next) where
+    there : readAt s c ≡ Found r next
+    there = sym is ∙ e
+
+    more-there : (0 < c .left) × (readFrom (c .left) s (c .at) ≡ first r (readFrom (next .left) s (next .at)))
+    more-there = read-more s (c .at) (c .left) there
+
     -- the remaining records begin with the one that was read
     pub here : drop n (recordsOf s) ≡ r ∷ readFrom (next .left) s (next .at) .records
-    here = sym (w .rest) ∙ ap (λ (k : Reading). k .records) (read-more s (c .at) (c .left) e .1)
+    here = sym (w .rest) ∙ ap (λ (k : Reading). k .records) (more-there .1)
 
     -- the record that was read is number n
     pub found-number : n < length (recordsOf s)
@@ -92,35 +101,45 @@ module _ (s : List ℕ) (c : Cursor) (n : ℕ) (w : At s c n) where
     rest-is = sym (drop-drop 1 n (recordsOf s)) ∙ ap (λ (l : List Record). drop 1 l) here
 
     pub fewer-left : next .left < c .left
-    fewer-left = omega (arith, fewer s c e, read-more s (c .at) (c .left) e .0)
+    fewer-left = omega (arith, fewer s c there, more-there .0)
+
+    -- a number that is an index of an array of 256, and is counted on
+    pub found-below : n < 256
+    found-below = omega (arith, w .total, more-there .0)
+
+    pub found-fits : Fits w64 (n + 1)
+    found-fits = record { fits = omega (arith, found-below) }
 
     pub at-next : At s next (n + 1)
     at-next =
         record {
-          total = omega (arith, w .total, fewer s c e, read-more s (c .at) (c .left) e .0);
+          total = omega (arith, w .total, fewer s c there, more-there .0);
           among = omega (arith, found-number);
           rest = sym rest-is;
-          stops = ap (λ (k : Reading). k .stop) (sym (read-more s (c .at) (c .left) e .1)) ∙ w .stops;
+          stops = ap (λ (k : Reading). k .stop) (sym (more-there .1)) ∙ w .stops;
         }
 
-  module _ (x : ℕ) (e : readAt s c ≡ Refused x) where
+  module _ (x : ℕ) (e : k ≡ Refused x) where
+    ended : readFrom (c .left) s (c .at) ≡ record { records = []; stop = x }
+    ended = read-stop s (c .at) (c .left) (sym is ∙ e)
+
     -- if no record could be read, all had been
     pub all-read : n ≡ length (recordsOf s)
     all-read =
-        let f : drop n (recordsOf s) ≡ [] = sym (w .rest) ∙ ap (λ (k : Reading). k .records) (read-stop s (c .at) (c .left) e) in
+        let f : drop n (recordsOf s) ≡ [] = sym (w .rest) ∙ ap (λ (k : Reading). k .records) ended in
         omega (arith, length-drop n (recordsOf s), ap length f, w .among)
 
-    pub stop-is : x ≡ stopOf s
-    stop-is = ap (λ (k : Reading). k .stop) (sym (read-stop s (c .at) (c .left) e)) ∙ w .stops
+    pub stop-is : (at : ℕ) → at ≡ reachedOf k → at ≡ stopOf s
+    stop-is at r = r ∙ ap reachedOf e ∙ ap (λ (k : Reading). k .stop) (sym ended) ∙ w .stops
 
 -- ---- the walk of a loop that does not count
 pub at-first : (s : List ℕ) (c : Cursor) → c ≡ start → At s c (256 - c .left)
 at-first s c e = rw e (at-start s)
 
-pub at-after : (s : List ℕ) (c : Cursor) → At s c (256 - c .left) → (r : Record) (next : Cursor) → readAt s c ≡ Found r next → At s next (256 - next .left)
-at-after s c w r next e =
+pub at-after : (s : List ℕ) (c : Cursor) → At s c (256 - c .left) → (k : Read) → k ≡ readAt s c → (r : Record) (next : Cursor) → k ≡ Found r next → At s next (256 - next .left)
+at-after s c w k is r next e =
     let n : ℕ = 256 - c .left in
-    let t = at-next s c n w r next e in
+    let t = at-next s c n w k is r next e in
     let z : n + 1 ≡ 256 - next .left = omega (arith, t .total) in
     rw z at t
 
@@ -142,7 +161,7 @@ module _ (s : List ℕ) (at n : ℕ) (w : Before s at n) (more : n < length (rec
     where
       by : (k : Read) → readAt s here-at ≡ k → A
       by (Found r next) e = f r next e
-      by (Refused x) e = let z : ⊥ = omega (arith, all-read s here-at n w x e) in absurd z
+      by (Refused x) e = let z : ⊥ = omega (arith, all-read s here-at n w _ refl x e) in absurd z
 
   pub stands : Stands s at
   stands = read-there (λ r next e. found-stands s here-at e)
@@ -152,12 +171,12 @@ module _ (s : List ℕ) (at n : ℕ) (w : Before s at n) (more : n < length (rec
     same q next f = let k = fitting s here-at f .0 in cc
 
     pub stands-record : (d : Record) → getD (recordsOf s) n d ≡ r
-    stands-record d = read-there (λ q next f. found-record s here-at n w q next f d ∙ same q next f)
+    stands-record d = read-there (λ q next f. found-record s here-at n w _ refl q next f d ∙ same q next f)
 
     pub before-next : Before s (at + 1 + getD s at 0) (n + 1)
     before-next =
         read-there (λ q next f.
-        let t = at-next s here-at n w q next f in
+        let t = at-next s here-at n w _ refl q next f in
         let m : 256 - n - 1 ≡ 256 - (n + 1) = omega arith in
         let g : next ≡ record { at = at + 1 + getD s at 0; left = 256 - (n + 1) } = fitting s here-at f .1 ∙ ap (λ (l : ℕ). record { at = at + 1 + getD s at 0; left = l }) m in
         rw g at t)

@@ -1,8 +1,6 @@
--- `contents::records` ends, and its count stays below 257: the cursor has n records before it.
-use mathlib.Core.Path.{sym, _∙_}
-use native.Mathlib.Omega.{arith}
+-- `contents::records` ends, and its count stays below 257: n records came before the cursor.
 use borrow.Author.Needs.{needs}
-use Rattle.sheet.proofs.Walk.{At, at-start, at-next, fewer-left}
+use Rattle.sheet.proofs.Walk.{At, at-start, at-next, fewer-left, found-fits}
 use Rattle.contents.proofs.records.Statement.{statement}
 use Rattle.contents.proofs.records.Tie as tie
 
@@ -40,15 +38,13 @@ end-requires : tie.Need-end-requires Inv-loop μ-loop
 end-requires c κs = search needs
 
 add-n : tie.Need-add-n Inv-loop μ-loop
-add-n c = omega (arith, c .before .before .before .before .before .before .before .loop .inv .total)
+add-n c = search (needs, found-fits)
 
 loop-less : tie.Need-loop-less Inv-loop μ-loop
-loop-less c =
-    fewer-left _ _ _ (c .before .before .before .before .before .before .before .loop .inv) _ _ (sym (c .before .before .before .before .before .before .read .ensures) ∙ c .before .before .before .before .r .given .1)
+loop-less c = search (needs, fewer-left)
 
 loop-again : tie.Need-loop-again Inv-loop μ-loop
-loop-again c =
-    at-next _ _ _ (c .before .before .before .before .before .before .before .loop .inv) _ _ (sym (c .before .before .before .before .before .before .read .ensures) ∙ c .before .before .before .before .r .given .1)
+loop-again c = search (needs, at-next)
 
 pub records-spec : {M : Type 1} → statement M
 records-spec =

@@ -1,6 +1,5 @@
 -- `sheet::Cursor::read` meets its contract: at each return, the tests that led there determine what is read.
-use native.Mathlib.Omega.{arith}
-use Rattle.sheet.proofs.Rows.{refused-full, refused-end, refused-over, refused-row, found-row}
+use Rattle.sheet.proofs.Rows.{refused-full, refused-end, refused-over, refused-row, found-row, byte-fits}
 use borrow.Author.Needs.{needs}
 use Rattle.sheet.proofs.Cursor.read.Statement.{statement}
 use Rattle.sheet.proofs.Cursor.read.Tie as tie
@@ -15,8 +14,7 @@ shared-slice-read-size : tie.Need-shared-slice-read-size
 shared-slice-read-size c = search needs
 
 cast-size : tie.Need-cast-size
-cast-size c =
-    omega (arith, c .shared-slice-known2 .given (c .before .before .before .before .args .self .at))
+cast-size c = search (needs, byte-fits, c .shared-slice-known2 .given)
 
 sub-if3 : tie.Need-sub-if3
 sub-if3 c = search needs

@@ -1,9 +1,7 @@
 -- `sheet::operands::check_records` meets its contract. The invariant is `Sorting`: n records are done, and the array holds their sorts. The measure is the number of records that may still follow.
-use mathlib.Core.Path.{sym, refl, _∙_}
 use native.Mathlib.Omega.{arith}
 use borrow.Author.Needs.{needs}
-use borrow.Author.Tests.{not-true, not-false}
-use Rattle.sheet.proofs.Walk.{fewer-left, at-next}
+use Rattle.sheet.proofs.Walk.{fewer-left, found-below, found-fits}
 use Rattle.sheet.proofs.Sorting.{Sorting, sorting-start, unmet, sorting-next, sorted-end}
 use Rattle.sheet.proofs.operands.check_records.Statement.{statement}
 use Rattle.sheet.proofs.operands.check_records.Tie as tie
@@ -18,7 +16,7 @@ start-requires : tie.Need-start-requires Inv-loop μ-loop
 start-requires c κs = search needs
 
 loop-holds : tie.Need-loop-holds Inv-loop μ-loop
-loop-holds c = sorting-start _ _ (c .start .ensures)
+loop-holds c = search (needs, sorting-start)
 
 read-requires : tie.Need-read-requires Inv-loop μ-loop
 read-requires c κs = search needs
@@ -33,8 +31,7 @@ solid-requires : tie.Need-solid-requires Inv-loop μ-loop
 solid-requires c κs = search needs
 
 returns : tie.Need-returns Inv-loop μ-loop
-returns c =
-    c .solid .ensures ∙ sorted-end _ _ _ _ _ (c .before .before .before .before .loop .inv) _ (sym (c .before .before .before .read .ensures) ∙ c .before .enum-told .given .1)
+returns c = search (needs, sorted-end)
 
 first-requires : tie.Need-first-requires Inv-loop μ-loop
 first-requires c κs = search needs
@@ -61,27 +58,22 @@ met-requires : tie.Need-met-requires Inv-loop μ-loop
 met-requires c κs = search needs
 
 returns-2 : tie.Need-returns-2 Inv-loop μ-loop
-returns-2 c =
-    unmet _ _ _ _ _ (c .before .before .before .before .before .before .before .before .before .before .before .loop .inv) _ _ (sym (c .before .before .before .before .before .before .before .before .before .before .read .ensures) ∙ c .before .before .before .before .before .before .before .before .r .given .1) _ _ _ _ _ _ (c .before .before .before .before .before .before .first .ensures) (c .before .before .before .before .second .ensures) (c .before .before .asked .ensures) refl refl (c .before .met .ensures) (not-true _ (c .if1 .taken))
+returns-2 c = search (needs, unmet)
 
 sort-requires : tie.Need-sort-requires Inv-loop μ-loop
 sort-requires c κs = search needs
 
 array-set-from-sorts : tie.Need-array-set-from-sorts Inv-loop μ-loop
-array-set-from-sorts c =
-    omega (arith, at-next _ _ _ (c .before .before .before .before .before .before .before .before .before .before .before .before .loop .inv .walk) _ _ (sym (c .before .before .before .before .before .before .before .before .before .before .before .read .ensures) ∙ c .before .before .before .before .before .before .before .before .before .r .given .1) .total)
+array-set-from-sorts c = search (needs, found-below)
 
 add-n : tie.Need-add-n Inv-loop μ-loop
-add-n c =
-    omega (arith, at-next _ _ _ (c .before .before .before .before .before .before .before .before .before .before .before .before .loop .inv .walk) _ _ (sym (c .before .before .before .before .before .before .before .before .before .before .before .read .ensures) ∙ c .before .before .before .before .before .before .before .before .before .r .given .1) .total)
+add-n c = search (needs, found-fits)
 
 loop-less : tie.Need-loop-less Inv-loop μ-loop
-loop-less c =
-    fewer-left _ _ _ (c .before .before .before .before .before .before .before .before .before .before .before .before .loop .inv .walk) _ _ (sym (c .before .before .before .before .before .before .before .before .before .before .before .read .ensures) ∙ c .before .before .before .before .before .before .before .before .before .r .given .1)
+loop-less c = search (needs, fewer-left)
 
 loop-again : tie.Need-loop-again Inv-loop μ-loop
-loop-again c =
-    sorting-next _ _ _ _ _ (c .before .before .before .before .before .before .before .before .before .before .before .before .loop .inv) _ _ (sym (c .before .before .before .before .before .before .before .before .before .before .before .read .ensures) ∙ c .before .before .before .before .before .before .before .before .before .r .given .1) _ _ _ _ _ _ (c .before .before .before .before .before .before .before .first .ensures) (c .before .before .before .before .before .second .ensures) (c .before .before .before .asked .ensures) refl refl (c .before .before .met .ensures) _ (not-false _ (c .before .if1 .left)) (c .sort .ensures)
+loop-again c = search (needs, sorting-next _ _ _ _ _ (c .before .before .before .before .before .before .before .before .before .before .before .before .loop .inv))
 
 pub check-records-spec : {M : Type 1} → statement M
 check-records-spec =

@@ -1,8 +1,6 @@
 -- `sheet::reading::stop` meets its contract. The invariant: the cursor has 256 - left records before it. The measure is `left`.
-use mathlib.Core.Path.{sym, ap, _∙_}
 use Prim.Native.Nat.{_-_}
 use borrow.Author.Needs.{needs}
-use Rattle.sheet.specs.Table.{reachedOf}
 use Rattle.sheet.proofs.Walk.{At, at-first, at-after, fewer-left, stop-is}
 use Rattle.sheet.proofs.reading.stop.Statement.{statement}
 use Rattle.sheet.proofs.reading.stop.Tie as tie
@@ -17,7 +15,7 @@ start-requires : tie.Need-start-requires Inv-loop μ-loop
 start-requires c κs = search needs
 
 loop-holds : tie.Need-loop-holds Inv-loop μ-loop
-loop-holds c = at-first _ _ (c .start .ensures)
+loop-holds c = search (needs, at-first)
 
 read-requires : tie.Need-read-requires Inv-loop μ-loop
 read-requires c κs = search needs
@@ -32,16 +30,13 @@ reached-requires : tie.Need-reached-requires Inv-loop μ-loop
 reached-requires c κs = search needs
 
 returns : tie.Need-returns Inv-loop μ-loop
-returns c =
-    c .reached .ensures ∙ ap reachedOf (c .before .enum-told .given .1) ∙ stop-is _ _ _ (c .before .before .before .before .loop .inv) _ (sym (c .before .before .before .read .ensures) ∙ c .before .enum-told .given .1)
+returns c = search (needs, stop-is)
 
 loop-less : tie.Need-loop-less Inv-loop μ-loop
-loop-less c =
-    fewer-left _ _ _ (c .before .before .before .before .loop .inv) _ _ (sym (c .before .before .before .read .ensures) ∙ c .before .r .given .1)
+loop-less c = search (needs, fewer-left)
 
 loop-again : tie.Need-loop-again Inv-loop μ-loop
-loop-again c =
-    at-after _ _ (c .before .before .before .before .loop .inv) _ _ (sym (c .before .before .before .read .ensures) ∙ c .before .r .given .1)
+loop-again c = search (needs, at-after)
 
 pub stop-spec : {M : Type 1} → statement M
 stop-spec =

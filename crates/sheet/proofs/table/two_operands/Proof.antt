@@ -1,6 +1,7 @@
 -- `sheet::table::two_operands` meets its contract: the tests on the kind pick the row.
-use borrow.Author.Tests.{ne-eqb}
 use Rattle.sheet.specs.Table.{rowOf}
+use Rattle.sheet.proofs.Rows.{no-two}
+use borrow.Author.Needs.{needs}
 use Rattle.sheet.proofs.table.two_operands.Statement.{statement}
 use Rattle.sheet.proofs.table.two_operands.Tie as tie
 
@@ -25,9 +26,7 @@ unfolding rowOf
 returns-5 c = rw (c .if5 .taken)
 
 returns-6 : tie.Need-returns-6
-unfolding rowOf
-returns-6 c =
-    rw (ne-eqb _ _ (c .before .before .before .before .if1 .left), ne-eqb _ _ (c .before .before .before .if2 .left), ne-eqb _ _ (c .before .before .if3 .left), ne-eqb _ _ (c .before .if4 .left), ne-eqb _ _ (c .if5 .left))
+returns-6 c = search (needs, no-two)
 
 pub two-operands-spec : {M : Type 1} → statement M
 two-operands-spec = tie.close (tie.spec returns returns-2 returns-3 returns-4 returns-5 returns-6)

@@ -4,7 +4,7 @@ use mathlib.Core.List.{List, [], _∷_, _++_}
 use Prim.Native.Nat.{ℕ, suc, _+_, _*_, _≤_, _<_}
 use native.Mathlib.Omega.{arith}
 use lib.ListN.{length, set, length-set, length-append}
-use lib.Seq.{sets}
+use lib.Seq.{sets, length-sets}
 use Rattle.integers.proofs.Stores.{sets-append}
 use mir.Syntax.{w32}
 use mir.Val.{SFits, toZ, ofZ}
@@ -62,34 +62,35 @@ module _ (r : Root) (d d₁ d₂ d₃ : List ℕ) (fx : SFits w32 (r .x)) (fy : 
       second : (u v : ℕ) → 13 ≡ 5 + length (bytesOf 4 u ++ bytesOf 4 v)
       second u v = omega (arith, length-append (bytesOf 4 u) (bytesOf 4 v), bytes-length 4 u, bytes-length 4 v)
 
--- put_header: d₁ and d₂ are the buffer after each call, v the version
-module _ (d d₁ d₂ : List ℕ) (v : ℕ) where
-  module _ (e : length d₁ ≡ length d) where
-    pub corner-room : 19 ≤ length d → 17 ≤ length (set d₁ 4 v)
-    corner-room h = rw (length-set, e) (omega arith)
-
-    module _ (f : length d₂ ≡ length (set d₁ 4 v)) where
-      kept : length d₂ ≡ length d
-      kept = rw length-set at f ∙ e
-
-      pub k-room : 19 ≤ length d → 17 < length d₂
-      k-room h = rw kept (omega arith)
-
-      pub d-room : (k : ℕ) → 19 ≤ length d → 18 < length (set d₂ 17 k)
-      d-room k h = rw (length-set, kept) h
-
-      pub header-kept : (k n : ℕ) → length (set (set d₂ 17 k) 18 n) ≡ length d
-      header-kept k n = rw (length-set, length-set) kept
-
-module _ (r : Root) (n : ℕ) (d d₁ d₂ : List ℕ) where
+-- put_header: d₁ and d₂ are what the calls left
+module _ (n : ℕ) (d d₁ : List ℕ) (e : d₁ ≡ sets d 0 (bytesOf 4 (15 + 3 * n))) where
   abbrev count : List ℕ
   count = bytesOf 4 (15 + 3 * n)
 
-  pub header-stored : d₁ ≡ sets d 0 count → d₂ ≡ sets (set d₁ 4 1) 5 (cornerBytes r) → set (set d₂ 17 (r .k)) 18 (r .d) ≡ sets d 0 (headerOf r n)
-  unfolding headerOf
-  header-stored e f =
-      rw (f, e)
-      (ap (λ (l : List ℕ). sets (sets l 5 (cornerBytes r)) 17 (r .k ∷ r .d ∷ [])) (sets-append d 0 4 count (1 ∷ []) (omega (arith, bytes-length 4 (15 + 3 * n))))
-      ∙ ap (λ (l : List ℕ). sets l 17 (r .k ∷ r .d ∷ [])) (sets-append d 0 5 (count ++ 1 ∷ []) (cornerBytes r) (omega (arith, length-append count (1 ∷ []), bytes-length 4 (15 + 3 * n))))
-      ∙ sets-append d 0 17 (count ++ 1 ∷ [] ++ cornerBytes r) (r .k ∷ r .d ∷ [])
-      (omega (arith, length-append (count ++ 1 ∷ []) (cornerBytes r), length-append count (1 ∷ []), bytes-length 4 (15 + 3 * n), corner-length r)))
+  left : length (set d₁ 4 1) ≡ length d
+  left = length-set d₁ 4 1 ∙ ap length e ∙ length-sets d 0 count
+
+  pub corner-room : 19 ≤ length d → 17 ≤ length (set d₁ 4 1)
+  corner-room h = omega (arith, left)
+
+  module _ (r : Root) (d₂ : List ℕ) (f : d₂ ≡ sets (set d₁ 4 1) 5 (cornerBytes r)) where
+    kept : length d₂ ≡ length d
+    kept = ap length f ∙ length-sets (set d₁ 4 1) 5 (cornerBytes r) ∙ left
+
+    pub k-room : 19 ≤ length d → 17 < length d₂
+    k-room h = omega (arith, kept)
+
+    pub d-room : 19 ≤ length d → (k : ℕ) → 18 < length (set d₂ 17 k)
+    d-room h k = rw (length-set, kept) h
+
+    pub header-kept : (k depth : ℕ) → length (set (set d₂ 17 k) 18 depth) ≡ length d
+    header-kept k depth = rw (length-set, length-set) kept
+
+    pub header-stored : set (set d₂ 17 (r .k)) 18 (r .d) ≡ sets d 0 (headerOf r n)
+    unfolding headerOf
+    header-stored =
+        rw (f, e)
+        (ap (λ (l : List ℕ). sets (sets l 5 (cornerBytes r)) 17 (r .k ∷ r .d ∷ [])) (sets-append d 0 4 count (1 ∷ []) (omega (arith, bytes-length 4 (15 + 3 * n))))
+        ∙ ap (λ (l : List ℕ). sets l 17 (r .k ∷ r .d ∷ [])) (sets-append d 0 5 (count ++ 1 ∷ []) (cornerBytes r) (omega (arith, length-append count (1 ∷ []), bytes-length 4 (15 + 3 * n))))
+        ∙ sets-append d 0 17 (count ++ 1 ∷ [] ++ cornerBytes r) (r .k ∷ r .d ∷ [])
+        (omega (arith, length-append (count ++ 1 ∷ []) (cornerBytes r), length-append count (1 ∷ []), bytes-length 4 (15 + 3 * n), corner-length r)))

@@ -1,4 +1,4 @@
--- The loop over a map's leaves: what the proof of `scan` needs.
+-- The scan over a map's leaves: the needs of `scan`, each as it stands.
 use mathlib.Core.Path.{_≡_, refl, _∙_}
 use mathlib.Core.Bool.{Bool, cond}
 use mathlib.Core.List.{List, [], _∷_}
@@ -7,6 +7,8 @@ use native.Mathlib.Omega.{arith}
 use borrow.Author.Tests.{eq-eqb, ne-eqb, lt-leb, le-leb, leb-false, ltb-true, ltb-false}
 use lib.Dec.{leb, ltb}
 use lib.ListN.{length}
+use mir.Syntax.{w32}
+use mir.Val.{Fits}
 use Rattle.integers.specs.First.{onFirst}
 use Rattle.integers.proofs.Order.{by-test}
 use Rattle.zonemap.specs.declared.Leaf.{Leaf}
@@ -51,6 +53,9 @@ pub record Scan (named : ℕ → Bool) (s : List ℕ) (d m place at found : ℕ)
   pub same-fault : leavesFault named d place at (leavesFrom s at) ≡ leavesFault named d 0 19 (leavesOf s)
   pub same-leaf : offsetFrom d m place at found (leavesFrom s at) ≡ 19 + 3 * leafAt d m 0 (leavesOf s)
 
+pub scan-less : (s : List ℕ) (at : ℕ) → at < length s → length s - (at + 3) < length s - at
+scan-less s at h = omega arith
+
 module _ (named : ℕ → Bool) (s : List ℕ) (d m : ℕ) where
   -- what `scan` returns
   abbrev Answer : Scanned
@@ -61,10 +66,13 @@ module _ (named : ℕ → Bool) (s : List ℕ) (d m : ℕ) where
       record { beat = refl; whole = e; room = omega arith; small = power-below d h; same-fault = refl; same-leaf = rw (le-leb 0 m (omega arith)) }
 
   module _ (place at found : ℕ) (i : Scan named s d m place at found) where
-    -- l, r and f are what `leaf_at`, `good_size` and `last_before` returned
+    pub scan-below : place ≤ 2 ^ 30
+    scan-below = omega (arith, i .room, i .small)
+
+    -- l is what `leaf_at` returned, r what `good_size` did and f what `last_before` did
     module _ (l : Leaf) (el : l ≡ leafIn s at) (r : ℕ) (er : r ≡ Sized named d place l) where
-      pub scan-room : place + r ≤ 2 ^ 30
-      scan-room = omega (arith, sized-room named d place l r er (i .room), i .small)
+      pub scan-fits : Fits w32 (place + r)
+      scan-fits = record { fits = omega (arith, sized-room named d place l r er (i .room), i .small) }
 
       module _ (h : at < length s) where
         pub scan-bad : r ≡ 0 → Bad at ≡ Answer
@@ -85,13 +93,14 @@ module _ (named : ℕ → Bool) (s : List ℕ) (d m : ℕ) where
               same-leaf = rw (o .1, ef) (offset-on d m place at found l (leavesFrom s (at + 3)) ∙ rw left at (i .same-leaf));
             }
 
-    module _ (h : length s ≤ at) where
-      pub scan-short : place < 8 ^ d → Bad at ≡ Answer
+    -- w is what `eight_to` returned of d
+    module _ (h : length s ≤ at) (w : ℕ) (e : w ≡ 8 ^ d) where
+      pub scan-short : place < w → Bad at ≡ Answer
       unfolding leavesFault
       scan-short k = rw (← i .same-fault, no-more s at h, ne-eqb place (8 ^ d) (λ z. omega arith))
 
-      -- no leaf ends past 8^d, so the sum is 8^d if it is not less
-      pub scan-good : m < 8 ^ d → 8 ^ d ≤ place → At found ≡ Answer
+      -- no leaf ends past 8^d, so that the sum is 8^d where it is not less
+      pub scan-good : m < 8 ^ d → w ≤ place → At found ≡ Answer
       unfolding leavesFault
       scan-good k n =
           rw (← i .same-fault, no-more s at h, eq-eqb place (8 ^ d) (omega (arith, i .room)), ← i .same-leaf, lt-leb place m (omega arith))

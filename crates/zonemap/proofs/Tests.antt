@@ -62,7 +62,7 @@ pub root-told : (s : List ℕ) (x y z : ℤ) → x ≡ signedAt s 5 → y ≡ si
 unfolding rootOf
 root-told s x y z ex ey ez fx fy fz = rw (again w32 x (signedAt s 5) ex fx, again w32 y (signedAt s 9) ey fy, again w32 z (signedAt s 13) ez fz)
 
--- read_header: g, r and w are what `length_is_good`, `root` and `is_within` returned
+-- read_header: g is what `length_is_good` returned, r what `root` did and w what `is_within` did
 module _ (s : List ℕ) (g : Bool) (eg : g ≡ lengthGood s) where
   pub bad-length : not g ≡ true → BadHeader 0 ≡ onFirst (headerFault s) BadHeader (GoodHeader (rootOf s))
   unfolding headerFault
@@ -119,24 +119,25 @@ module _ (named : ℕ → Bool) (l : Leaf) where
 pub size-some : (n s : ℕ) → s ≡ 8 ^ n → 0 < s
 size-some n s e = omega (arith, one-le-pow n 8 (zero-lt-suc 7))
 
--- size_in_place: s is what `eight_to` returned for n
-module _ (d p n s : ℕ) (e : s ≡ 8 ^ n) where
-  abbrev Placed : ℕ
-  Placed = cond (eqb (p % 8 ^ n) 0 && leb (p + 8 ^ n) (8 ^ d)) (8 ^ n) 0
+-- size_in_place: s and w are what `eight_to` returned of n and of d
+module _ (n s : ℕ) (e : s ≡ 8 ^ n) (p : ℕ) where
+  abbrev Placed : ℕ → ℕ
+  Placed d = cond (eqb (p % 8 ^ n) 0 && leb (p + 8 ^ n) (8 ^ d)) (8 ^ n) 0
 
-  pub place-yes : p % s ≡ 0 → p + s ≤ 8 ^ d → s ≡ Placed
-  place-yes t h = e ∙ rw (eq-eqb (p % 8 ^ n) 0 (rw e at t), le-leb (p + 8 ^ n) (8 ^ d) (omega arith))
+  pub place-off : (p % s ≡ 0 → ⊥) → (d : ℕ) → 0 ≡ Placed d
+  place-off t d = rw (ne-eqb (p % 8 ^ n) 0 (rw e at t))
 
-  pub place-over : p % s ≡ 0 → 8 ^ d < p + s → 0 ≡ Placed
-  place-over t h = rw (eq-eqb (p % 8 ^ n) 0 (rw e at t), lt-leb (p + 8 ^ n) (8 ^ d) (omega arith))
+  module _ (t : p % s ≡ 0) (d w : ℕ) (k : w ≡ 8 ^ d) where
+    pub place-yes : p + s ≤ w → s ≡ Placed d
+    place-yes h = e ∙ rw (eq-eqb (p % 8 ^ n) 0 (rw e at t), le-leb (p + 8 ^ n) (8 ^ d) (omega arith))
 
-  pub place-off : (p % s ≡ 0 → ⊥) → 0 ≡ Placed
-  place-off t = rw (ne-eqb (p % 8 ^ n) 0 (rw e at t))
+    pub place-over : w < p + s → 0 ≡ Placed d
+    place-over h = rw (eq-eqb (p % 8 ^ n) 0 (rw e at t), lt-leb (p + 8 ^ n) (8 ^ d) (omega arith))
 
 pub power-small : (n w : ℕ) → w ≡ 8 ^ n → n ≤ 10 → w ≤ 2 ^ 30
 power-small n w e h = omega (arith, power-below n h)
 
--- good_size: a, b and r are what `level_is_good`, `face_is_good` and `size_in_place` returned
+-- good_size: a and b are what `level_is_good` and `face_is_good` returned, r what `size_in_place` did
 pub size-room : (d : ℕ) (l : Leaf) (a : Bool) → a ≡ levelGood d l → a ≡ true → l .level ≤ d
 size-room d l a e t = level-told d l (sym e ∙ t) .0
 
@@ -159,7 +160,7 @@ module _ (named : ℕ → Bool) (d p : ℕ) (l : Leaf) where
       unfolding leafGood placeGood
       size-placed r t e = e ∙ rw (sym ea ∙ ta, sym eb ∙ t)
 
-  -- ---- what a size says: r is what `good_size` returned
+  -- ---- what a size tells: r is what `good_size` returned
   module _ (r : ℕ) (e : r ≡ Sized) where
     pub sized-good : (r ≡ 0 → ⊥) → (leafGood named d p l ≡ true) × (r ≡ sizeOf d l)
     sized-good n = by-test (leafGood named d p l) (λ t. (t, e ∙ rw t)) (λ t. absurd (n (e ∙ rw t)))

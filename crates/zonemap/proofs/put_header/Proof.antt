@@ -20,20 +20,16 @@ put-corner-requires : tie.Need-put-corner-requires
 put-corner-requires c κs = search (needs, corner-room)
 
 slice-write-out-2 : tie.Need-slice-write-out-2
-slice-write-out-2 c =
-    k-room (c .before .before .before .before .before .before .before .before .before .args .out .now) (c .before .before .before .before .before .before .put-u32 .last .0) (c .before .before .put-corner .last .0) 1 (c .before .before .before .before .before .before .put-u32 .kept .0) (c .before .before .put-corner .kept .0) (c .before .before .before .before .before .before .before .before .before .pre .0)
+slice-write-out-2 c = search (needs, k-room)
 
 slice-write-out-3 : tie.Need-slice-write-out-3
-slice-write-out-3 c =
-    d-room (c .before .before .before .before .before .before .before .before .before .args .out .now) (c .before .before .before .before .before .before .put-u32 .last .0) (c .before .before .put-corner .last .0) 1 (c .before .before .before .before .before .before .put-u32 .kept .0) (c .before .before .put-corner .kept .0) (c .before .before .before .before .before .before .before .before .before .args .root .k) (c .before .before .before .before .before .before .before .before .before .pre .0)
+slice-write-out-3 c = search (needs, d-room)
 
 same-length : tie.Need-same-length
-same-length c =
-    header-kept (c .before .before .before .before .before .before .before .before .before .args .out .now) (c .before .before .before .before .before .before .put-u32 .last .0) (c .before .before .put-corner .last .0) 1 (c .before .before .before .before .before .before .put-u32 .kept .0) (c .before .before .put-corner .kept .0) (c .before .before .before .before .before .before .before .before .before .args .root .k) (c .before .before .before .before .before .before .before .before .before .args .root .d)
+same-length c = search (needs, header-kept)
 
 returns : tie.Need-returns
-returns c =
-    header-stored _ _ (c .before .before .before .before .before .before .before .before .before .args .out .now) _ _ (c .before .before .before .before .before .before .put-u32 .ensures) (c .before .before .put-corner .ensures)
+returns c = search (needs, header-stored)
 
 pub put-header-spec : {M : Type 1} → statement M
 put-header-spec =

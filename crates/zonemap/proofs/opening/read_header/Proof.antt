@@ -9,30 +9,25 @@ length-is-good-requires : tie.Need-length-is-good-requires
 length-is-good-requires c κs = search needs
 
 returns : tie.Need-returns
-returns c = bad-length _ _ (c .before .length-is-good .ensures) (c .if1 .taken)
+returns c = search (needs, bad-length)
 
 shared-slice-read-if2 : tie.Need-shared-slice-read-if2
-shared-slice-read-if2 c =
-    omega (arith, header-room _ _ (c .before .before .length-is-good .ensures) (c .before .if1 .left))
+shared-slice-read-if2 c = omega (arith, header-room _ _ (c .before .before .length-is-good .ensures) (c .before .if1 .left))
 
 returns-2 : tie.Need-returns-2
-returns-2 c =
-    bad-version _ _ (c .before .before .before .length-is-good .ensures) (c .before .before .if1 .left) (c .if2 .taken)
+returns-2 c = search (needs, bad-version)
 
 root-requires : tie.Need-root-requires
-root-requires c κs =
-    header-room _ _ (c .before .before .before .length-is-good .ensures) (c .before .before .if1 .left)
+root-requires c κs = search (needs, header-room)
 
 is-within-requires : tie.Need-is-within-requires
 is-within-requires c κs = search needs
 
 returns-3 : tie.Need-returns-3
-returns-3 c =
-    good-header _ _ (c .before .before .before .before .before .before .length-is-good .ensures) (c .before .before .before .before .before .if1 .left) (c .before .before .before .if2 .left) _ (c .before .before .root .ensures) _ (c .before .is-within .ensures) (c .if3 .taken)
+returns-3 c = search (needs, good-header)
 
 returns-4 : tie.Need-returns-4
-returns-4 c =
-    bad-root _ _ (c .before .before .before .before .before .before .length-is-good .ensures) (c .before .before .before .before .before .if1 .left) (c .before .before .before .if2 .left) _ (c .before .before .root .ensures) _ (c .before .is-within .ensures) (c .if3 .left)
+returns-4 c = search (needs, bad-root)
 
 pub read-header-spec : {M : Type 1} → statement M
 read-header-spec =

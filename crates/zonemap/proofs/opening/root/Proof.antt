@@ -20,8 +20,7 @@ shared-slice-read-t8 : tie.Need-shared-slice-read-t8
 shared-slice-read-t8 c = search needs
 
 returns : tie.Need-returns
-returns c =
-    root-told _ _ _ _ (c .before .before .before .before .i32-at .ensures) (c .before .before .before .i32-at2 .ensures) (c .before .before .i32-at3 .ensures) (c .before .before .before .before .i32-at .ok) (c .before .before .before .i32-at2 .ok) (c .before .before .i32-at3 .ok)
+returns c = search (needs, root-told)
 
 pub root-spec : {M : Type 1} → statement M
 root-spec =

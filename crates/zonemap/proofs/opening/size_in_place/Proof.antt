@@ -9,7 +9,7 @@ eight-to-requires : tie.Need-eight-to-requires
 eight-to-requires c κs = search needs
 
 rem-if1 : tie.Need-rem-if1
-rem-if1 c = size-some _ _ (c .eight-to .ensures)
+rem-if1 c = search (needs, size-some)
 
 add-if2 : tie.Need-add-if2
 add-if2 c = omega (arith, power-small _ _ (c .before .eight-to .ensures) (c .before .before .pre .1 .1))
@@ -18,16 +18,13 @@ eight-to-requires-2 : tie.Need-eight-to-requires-2
 eight-to-requires-2 c κs = search needs
 
 returns : tie.Need-returns
-returns c =
-    place-yes (c .before .before .before .before .args .d) (c .before .before .before .before .args .place) (c .before .before .before .before .args .n) _ (c .before .before .before .eight-to .ensures) (c .before .before .if1 .taken) (omega (arith, c .before .eight-to2 .ensures, c .if2 .taken))
+returns c = search (needs, place-yes)
 
 returns-2 : tie.Need-returns-2
-returns-2 c =
-    place-over (c .before .before .before .before .args .d) (c .before .before .before .before .args .place) (c .before .before .before .before .args .n) _ (c .before .before .before .eight-to .ensures) (c .before .before .if1 .taken) (omega (arith, c .before .eight-to2 .ensures, c .if2 .left))
+returns-2 c = search (needs, place-over)
 
 returns-3 : tie.Need-returns-3
-returns-3 c =
-    place-off (c .before .before .args .d) (c .before .before .args .place) (c .before .before .args .n) _ (c .before .eight-to .ensures) (c .if1 .left)
+returns-3 c = search (needs, place-off)
 
 pub size-in-place-spec : {M : Type 1} → statement M
 size-in-place-spec =

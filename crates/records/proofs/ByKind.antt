@@ -4,8 +4,8 @@ use mathlib.Core.Bool.{true, false, cond, _&&_, and-eq-true-iff}
 use mathlib.Core.List.{List}
 use Prim.Native.Nat.{ℕ, _+_, _<_, _≤_, _^_}
 use native.Mathlib.Omega.{arith}
-use borrow.Author.Tests.{eqb-true, ne-eqb}
-use lib.Dec.{eqb}
+use borrow.Author.Tests.{leb-true, eqb-true, ne-eqb}
+use lib.Dec.{leb, eqb}
 use lib.IntN.{ℤ}
 use lib.ListN.{length, getD}
 use lib.Signed.{mag}
@@ -79,6 +79,17 @@ module _ (s : List ℕ) (at : ℕ) (h : Stands s at) where
 
   pub record-is : (k : ℕ) → kind ≡ k → rowAt s at ≡ Known (kindOf k (getD s (at + 2) 0) (getD s (at + 3) 0) (signedAt s (at + 2)))
   record-is k e = tells .3 ∙ ap (λ (m : ℕ). Known (kindOf m (getD s (at + 2) 0) (getD s (at + 3) 0) (signedAt s (at + 2)))) e
+
+  -- the same as the arms of a match require them: k is the kind of the arm
+  module _ (k : ℕ) (e : kind ≡ k) where
+    pub first-room : leb 2 (countOf k) ≡ true → at + 2 < length s
+    first-room t = omega (arith, record-room k e, leb-true 2 (countOf k) t)
+
+    pub second-room : leb 3 (countOf k) ≡ true → at + 3 < length s
+    second-room t = omega (arith, record-room k e, leb-true 3 (countOf k) t)
+
+    pub record-as : (r : Record) → kindOf k (getD s (at + 2) 0) (getD s (at + 3) 0) (signedAt s (at + 2)) ≡ r → rowAt s at ≡ Known r
+    record-as r h = record-is k e ∙ ap Known h
 
   pub record-constant : (c : ℤ) → kind ≡ 1 → c ≡ signedAt s (at + 2) → mag c < 2 ^ 31 → rowAt s at ≡ Known (Constant (toZ w32 (ofZ w32 c)))
   record-constant c e h f = record-is 1 e ∙ ap (λ (z : ℤ). Known (Constant z)) (sym (toZ-ofZ {w = w32} (record { sfits = f }) ∙ h))

@@ -1,6 +1,6 @@
 -- `records::by_kind::record_at` meets its contract: the kind determines how many bytes follow it, and which record they make.
 use native.Mathlib.Omega.{arith}
-use Rattle.records.proofs.ByKind.{kind-room, record-room, record-is, record-constant, complement-room, complement-is}
+use Rattle.records.proofs.ByKind.{kind-room, record-room, first-room, second-room, record-as, record-constant, complement-room, complement-is}
 use borrow.Author.Needs.{needs}
 use Rattle.records.proofs.by_kind.record_at.Statement.{statement}
 use Rattle.records.proofs.by_kind.record_at.Tie as tie
@@ -9,7 +9,7 @@ add-match : tie.Need-add-match
 add-match c = search needs
 
 shared-slice-read-match : tie.Need-shared-slice-read-match
-shared-slice-read-match c = kind-room _ _ (c .before .before .pre)
+shared-slice-read-match c = search (needs, kind-room)
 
 add-i32-at : tie.Need-add-i32-at
 add-i32-at c = search needs
@@ -21,135 +21,115 @@ add-t10 : tie.Need-add-t10
 add-t10 c = search needs
 
 shared-slice-read-t12 : tie.Need-shared-slice-read-t12
-shared-slice-read-t12 c =
-    omega (arith, record-room _ _ (c .before .before .before .before .pre) 5 (c .before .match .keys5))
+shared-slice-read-t12 c = search (needs, first-room)
 
 add-t13 : tie.Need-add-t13
 add-t13 c = search needs
 
 shared-slice-read-t15 : tie.Need-shared-slice-read-t15
-shared-slice-read-t15 c =
-    omega (arith, record-room _ _ (c .before .before .before .before .before .pre) 5 (c .before .before .match .keys5))
+shared-slice-read-t15 c = search (needs, second-room)
 
 add-t16 : tie.Need-add-t16
 add-t16 c = search needs
 
 shared-slice-read-t18 : tie.Need-shared-slice-read-t18
-shared-slice-read-t18 c =
-    omega (arith, record-room _ _ (c .before .before .before .before .pre) 6 (c .before .match .keys6))
+shared-slice-read-t18 c = search (needs, first-room)
 
 add-t19 : tie.Need-add-t19
 add-t19 c = search needs
 
 shared-slice-read-t21 : tie.Need-shared-slice-read-t21
-shared-slice-read-t21 c =
-    omega (arith, record-room _ _ (c .before .before .before .before .before .pre) 6 (c .before .before .match .keys6))
+shared-slice-read-t21 c = search (needs, second-room)
 
 add-t22 : tie.Need-add-t22
 add-t22 c = search needs
 
 shared-slice-read-t24 : tie.Need-shared-slice-read-t24
-shared-slice-read-t24 c =
-    omega (arith, record-room _ _ (c .before .before .before .before .pre) 7 (c .before .match .keys7))
+shared-slice-read-t24 c = search (needs, first-room)
 
 add-t25 : tie.Need-add-t25
 add-t25 c = search needs
 
 shared-slice-read-t27 : tie.Need-shared-slice-read-t27
-shared-slice-read-t27 c =
-    omega (arith, record-room _ _ (c .before .before .before .before .before .pre) 7 (c .before .before .match .keys7))
+shared-slice-read-t27 c = search (needs, second-room)
 
 add-t28 : tie.Need-add-t28
 add-t28 c = search needs
 
 shared-slice-read-t30 : tie.Need-shared-slice-read-t30
-shared-slice-read-t30 c =
-    omega (arith, record-room _ _ (c .before .before .before .before .pre) 8 (c .before .match .keys8))
+shared-slice-read-t30 c = search (needs, first-room)
 
 add-t31 : tie.Need-add-t31
 add-t31 c = search needs
 
 shared-slice-read-t33 : tie.Need-shared-slice-read-t33
-shared-slice-read-t33 c =
-    omega (arith, record-room _ _ (c .before .before .before .before .pre) 16 (c .before .match .keys9))
+shared-slice-read-t33 c = search (needs, first-room)
 
 add-t34 : tie.Need-add-t34
 add-t34 c = search needs
 
 shared-slice-read-t36 : tie.Need-shared-slice-read-t36
-shared-slice-read-t36 c =
-    omega (arith, record-room _ _ (c .before .before .before .before .pre) 17 (c .before .match .keys10))
+shared-slice-read-t36 c = search (needs, first-room)
 
 add-t37 : tie.Need-add-t37
 add-t37 c = search needs
 
 shared-slice-read-t39 : tie.Need-shared-slice-read-t39
-shared-slice-read-t39 c =
-    omega (arith, record-room _ _ (c .before .before .before .before .before .pre) 17 (c .before .before .match .keys10))
+shared-slice-read-t39 c = search (needs, second-room)
 
 add-t40 : tie.Need-add-t40
 add-t40 c = search needs
 
 shared-slice-read-t42 : tie.Need-shared-slice-read-t42
-shared-slice-read-t42 c =
-    omega (arith, record-room _ _ (c .before .before .before .before .pre) 18 (c .before .match .keys11))
+shared-slice-read-t42 c = search (needs, first-room)
 
 add-t43 : tie.Need-add-t43
 add-t43 c = search needs
 
 shared-slice-read-t45 : tie.Need-shared-slice-read-t45
-shared-slice-read-t45 c =
-    omega (arith, record-room _ _ (c .before .before .before .before .before .pre) 18 (c .before .before .match .keys11))
+shared-slice-read-t45 c = search (needs, second-room)
 
 add-t46 : tie.Need-add-t46
 add-t46 c = search needs
 
 shared-slice-read-t48 : tie.Need-shared-slice-read-t48
-shared-slice-read-t48 c =
-    omega (arith, complement-room _ _ (c .before .before .before .before .pre) (c .before .match .rest .0 .0 .0 .0 .0 .0 .0 .0 .0 .0 .1) (c .before .match .rest .0 .0 .0 .0 .0 .0 .0 .0 .0 .1) (c .before .match .rest .0 .0 .0 .0 .0 .0 .0 .0 .1) (c .before .match .rest .0 .0 .0 .0 .0 .0 .0 .1) (c .before .match .rest .0 .0 .0 .0 .0 .0 .1) (c .before .match .rest .0 .0 .0 .0 .0 .1) (c .before .match .rest .0 .0 .0 .0 .1) (c .before .match .rest .0 .0 .0 .1) (c .before .match .rest .0 .0 .1) (c .before .match .rest .0 .1) (c .before .match .rest .1))
+shared-slice-read-t48 c = search (needs, complement-room)
 
 returns : tie.Need-returns
-returns c =
-    record-constant _ _ (c .before .before .before .before .pre) _ (c .before .match .keys1) (c .i32-at .ensures) (c .i32-at .ok)
+returns c = search (needs, record-constant)
 
 returns-2 : tie.Need-returns-2
-returns-2 c = record-is _ _ (c .before .before .before .pre) 2 (c .match .keys2)
+returns-2 c = search (needs, record-as)
 
 returns-3 : tie.Need-returns-3
-returns-3 c = record-is _ _ (c .before .before .before .pre) 3 (c .match .keys3)
+returns-3 c = search (needs, record-as)
 
 returns-4 : tie.Need-returns-4
-returns-4 c = record-is _ _ (c .before .before .before .pre) 4 (c .match .keys4)
+returns-4 c = search (needs, record-as)
 
 returns-5 : tie.Need-returns-5
-returns-5 c =
-    record-is _ _ (c .before .before .before .before .before .pre) 5 (c .before .before .match .keys5)
+returns-5 c = search (needs, record-as)
 
 returns-6 : tie.Need-returns-6
-returns-6 c =
-    record-is _ _ (c .before .before .before .before .before .pre) 6 (c .before .before .match .keys6)
+returns-6 c = search (needs, record-as)
 
 returns-7 : tie.Need-returns-7
-returns-7 c =
-    record-is _ _ (c .before .before .before .before .before .pre) 7 (c .before .before .match .keys7)
+returns-7 c = search (needs, record-as)
 
 returns-8 : tie.Need-returns-8
-returns-8 c = record-is _ _ (c .before .before .before .before .pre) 8 (c .before .match .keys8)
+returns-8 c = search (needs, record-as)
 
 returns-9 : tie.Need-returns-9
-returns-9 c = record-is _ _ (c .before .before .before .before .pre) 16 (c .before .match .keys9)
+returns-9 c = search (needs, record-as)
 
 returns-10 : tie.Need-returns-10
-returns-10 c =
-    record-is _ _ (c .before .before .before .before .before .pre) 17 (c .before .before .match .keys10)
+returns-10 c = search (needs, record-as)
 
 returns-11 : tie.Need-returns-11
-returns-11 c =
-    record-is _ _ (c .before .before .before .before .before .pre) 18 (c .before .before .match .keys11)
+returns-11 c = search (needs, record-as)
 
 returns-12 : tie.Need-returns-12
-returns-12 c =
-    complement-is _ _ (c .before .before .before .before .pre) (c .before .match .rest .0 .0 .0 .0 .0 .0 .0 .0 .0 .0 .1) (c .before .match .rest .0 .0 .0 .0 .0 .0 .0 .0 .0 .1) (c .before .match .rest .0 .0 .0 .0 .0 .0 .0 .0 .1) (c .before .match .rest .0 .0 .0 .0 .0 .0 .0 .1) (c .before .match .rest .0 .0 .0 .0 .0 .0 .1) (c .before .match .rest .0 .0 .0 .0 .0 .1) (c .before .match .rest .0 .0 .0 .0 .1) (c .before .match .rest .0 .0 .0 .1) (c .before .match .rest .0 .0 .1) (c .before .match .rest .0 .1) (c .before .match .rest .1)
+returns-12 c = search (needs, complement-is)
 
 pub record-at-spec : {M : Type 1} → statement M
 record-at-spec =

@@ -36,27 +36,34 @@ first-put n at d h = rw (one-digit n h) (byte-put (digit n) at d)
 pub last-room : (n at m : ℕ) → 10 ≤ n → at + length (decimalOf n) ≤ m → at + length (decimalOf (n / 10)) < m
 last-room n at m h l = omega (arith, ap length (more-digits n h), length-append (decimalOf (n / 10)) (digit (n % 10) ∷ []))
 
+pub last-inside : (n at r : ℕ) (d o : List ℕ) → 10 ≤ n → at + length (decimalOf n) ≤ length d → Puts (decimalOf (n / 10)) at d r o → r < length o
+last-inside n at r d o h l p = omega (arith, last-room n at (length d) h l, p .ends, ap length (p .bytes) ∙ length-sets d at (decimalOf (n / 10)))
+
 pub last-put : (n at r : ℕ) (d o : List ℕ) → 10 ≤ n → Puts (decimalOf (n / 10)) at d r o → Puts (decimalOf n) at d (r + 1) (set o r (digit (n % 10)))
 last-put n at r d o h p = rw (more-digits n h) (both-put _ _ _ _ _ _ _ _ p (byte-put (digit (n % 10)) r o))
 
 -- ---- a number with its sign, which has at most 20 bytes
-number-put : (n : ℤ) (at r : ℕ) (d o : List ℕ) → SFits w64 n → at + 20 ≤ length d → Puts (signedText n) at d r o → Puts (signedText n) at d r o × Counts r o
-number-put n at r d o f l p = (p, counts r o (omega (arith, signed-length n f, p, ap length (p .bytes) ∙ length-sets d at (signedText n))))
+pub number-counts : (n : ℤ) (at r : ℕ) (d o : List ℕ) → SFits w64 n → at + 20 ≤ length d → Puts (signedText n) at d r o → Counts r o
+number-counts n at r d o f l p = counts r o (omega (arith, signed-length n f, p, ap length (p .bytes) ∙ length-sets d at (signedText n)))
 
-module _ (n : ℤ) (at : ℕ) (d : List ℕ) (f : SFits w64 n) (l : at + 20 ≤ length d) where
+-- the sign leaves the length
+pub sign-kept : (d o : List ℕ) (at v : ℕ) → length o ≡ length (set d at v) → length o ≡ length d
+sign-kept d o at v e = e ∙ length-set d at v
+
+module _ (n : ℤ) (at : ℕ) (d : List ℕ) (f : SFits w64 n) where
   module _ (t : ltZ (toZ w64 (ofZ w64 n)) (pos 0) ≡ false) where
-    pub plain-room : at + length (decimalOf (natAbs (toZ w64 (ofZ w64 n)))) ≤ length d
-    plain-room = omega (arith, signed-length n f, ap length (plain-text n f t))
+    pub plain-room : at + 20 ≤ length d → at + length (decimalOf (natAbs (toZ w64 (ofZ w64 n)))) ≤ length d
+    plain-room l = omega (arith, signed-length n f, ap length (plain-text n f t))
 
-    pub plain-put : (r : ℕ) (o : List ℕ) → Puts (decimalOf (natAbs (toZ w64 (ofZ w64 n)))) at d r o → Puts (signedText n) at d r o × Counts r o
-    plain-put r o p = number-put n at r d o f l (rw (plain-text n f t) p)
+    pub plain-put : (r : ℕ) (o : List ℕ) → Puts (decimalOf (natAbs (toZ w64 (ofZ w64 n)))) at d r o → Puts (signedText n) at d r o
+    plain-put r o p = rw (plain-text n f t) p
 
   module _ (t : ltZ (toZ w64 (ofZ w64 n)) (pos 0) ≡ true) where
-    pub sign-room : (v : ℕ) → at + 1 + length (decimalOf (natAbs (lessOne n) + 1)) ≤ length (set d at v)
-    sign-room v = omega (arith, signed-length n f, ap length (less-text n f t), length-set d at v)
+    pub sign-room : at + 20 ≤ length d → (v : ℕ) → at + 1 + length (decimalOf (natAbs (lessOne n) + 1)) ≤ length (set d at v)
+    sign-room l v = omega (arith, signed-length n f, ap length (less-text n f t), length-set d at v)
 
-    pub sign-put : (r : ℕ) (o : List ℕ) → Puts (decimalOf (natAbs (lessOne n) + 1)) (at + 1) (set d at 45) r o → Puts (signedText n) at d r o × Counts r o
-    sign-put r o p = number-put n at r d o f l (rw (less-text n f t) (both-put _ _ _ _ _ _ _ _ (byte-put 45 at d) p))
+    pub sign-put : (r : ℕ) (o : List ℕ) → Puts (decimalOf (natAbs (lessOne n) + 1)) (at + 1) (set d at 45) r o → Puts (signedText n) at d r o
+    sign-put r o p = rw (less-text n f t) (both-put _ _ _ _ _ _ _ _ (byte-put 45 at d) p)
 
 -- ---- a number and the byte that ends it, and lines of them
 module _ (n : ℤ) (at r : ℕ) (d o : List ℕ) (f : SFits w64 n) where
@@ -67,8 +74,11 @@ module _ (n : ℤ) (at r : ℕ) (d o : List ℕ) (f : SFits w64 n) where
     pub end-room : at + 21 ≤ length d → r < length o
     end-room l = omega (arith, signed-length n f, numbered, ap length (numbered .bytes) ∙ length-sets d at (signedText n))
 
-    pub end-put : (e : ℕ) → Puts (signedText n ++ (e ∷ [])) at d (r + 1) (set o r e) × (r + 1 ≤ at + 21)
-    end-put e = (both-put _ _ _ _ _ _ _ _ numbered (byte-put e r o), omega (arith, signed-length n f, numbered))
+    pub end-put : (e : ℕ) → Puts (signedText n ++ (e ∷ [])) at d (r + 1) (set o r e)
+    end-put e = both-put _ _ _ _ _ _ _ _ numbered (byte-put e r o)
+
+    pub end-few : r + 1 ≤ at + 21
+    end-few = omega (arith, signed-length n f, numbered)
 
   pub last-field : Puts (signedText (toZ w64 (ofZ w64 n)) ++ (10 ∷ [])) at d r o → Puts (lineOf (n ∷ [])) at d r o
   unfolding lineOf

@@ -1,7 +1,7 @@
 -- The proof of the recursive function `text::put_digits`: each call takes a tenth of the number.
 use native.Mathlib.Omega.{arith}
 use borrow.Author.Needs.{needs}
-use Rattle.text.proofs.Storing.{first-room, first-put, last-room, last-put}
+use Rattle.text.proofs.Storing.{first-room, first-put, last-room, last-inside, last-put}
 use Prim.Native.Nat.{ℕ, _<_}
 use borrow.Fn.Kinds.{In}
 use borrow.Fn.PlainCycle.{Measures, is, falls, and}
@@ -42,7 +42,7 @@ put-digits-add-out :
 put-digits-add-out t c = omega arith
 
 put-digits-slice-write-out : (t : ℕ) → put-digits-lts.Need-slice-write-out (put-digits-calls t) (put-digits-at t) put-digits.Post
-put-digits-slice-write-out t c = first-room _ _ _ (c .if1 .taken) (c .before .before .pre .1)
+put-digits-slice-write-out t c = search (needs, first-room)
 
 put-digits-add-result : (t : ℕ) → put-digits-lts.Need-add-result (put-digits-calls t) (put-digits-at t) put-digits.Post
 put-digits-add-result t c = omega (arith, first-room _ _ _ (c .if1 .taken) (c .before .before .pre .1))
@@ -56,7 +56,7 @@ put-digits-returns :
     (put-digits-below t, put-digits.Post)
     (put-digits-at t)
     put-digits.Post
-put-digits-returns t c = first-put _ _ _ (c .if1 .taken)
+put-digits-returns t c = search (needs, first-put)
 
 put-digits-put-digits-requires : (t : ℕ) → put-digits-lts.Need-put-digits-requires (put-digits-calls t) (put-digits-at t) put-digits.Post
 put-digits-put-digits-requires t c κs =
@@ -69,8 +69,7 @@ put-digits-add-out-2 : (t : ℕ) → put-digits-lts.Need-add-out-2 (put-digits-c
 put-digits-add-out-2 t c = omega arith
 
 put-digits-slice-write-out-2 : (t : ℕ) → put-digits-lts.Need-slice-write-out-2 (put-digits-calls t) (put-digits-at t) put-digits.Post
-put-digits-slice-write-out-2 t c =
-    omega (arith, last-room _ _ _ (c .before .before .before .before .if1 .left) (c .before .before .before .before .before .before .pre .1))
+put-digits-slice-write-out-2 t c = search (needs, last-inside)
 
 put-digits-add-result-2 : (t : ℕ) → put-digits-lts.Need-add-result-2 (put-digits-calls t) (put-digits-at t) put-digits.Post
 put-digits-add-result-2 t c =
@@ -80,8 +79,7 @@ put-digits-same-length-2 : (t : ℕ) → put-digits-lts.Need-same-length-2 (put-
 put-digits-same-length-2 t c = search needs
 
 put-digits-returns-2 : (t : ℕ) → put-digits-lts.Need-returns-2 (put-digits-calls t) (put-digits-at t) put-digits.Post
-put-digits-returns-2 t c =
-    last-put _ _ _ _ _ (c .before .before .before .before .if1 .left) (c .before .before .put-digits .ensures)
+put-digits-returns-2 t c = search (needs, last-put)
 
 pub +put-digits-spec : {M : Type 1} → statement M
 +put-digits-spec = close μ-put-digits λ t. put-digits-lts.spec (put-digits-calls t)

@@ -1,7 +1,7 @@
 -- `text::put_field` meets its contract.
 use native.Mathlib.Omega.{arith}
 use borrow.Author.Needs.{needs}
-use Rattle.text.proofs.Storing.{end-room, end-put}
+use Rattle.text.proofs.Storing.{end-room, end-put, end-few}
 use Rattle.text.proofs.put_field.Statement.{statement}
 use Rattle.text.proofs.put_field.Tie as tie
 
@@ -9,8 +9,7 @@ put-number-requires : tie.Need-put-number-requires
 put-number-requires c κs = omega arith
 
 slice-write-out : tie.Need-slice-write-out
-slice-write-out c =
-    end-room (c .before .before .before .before .before .args .n) _ _ _ _ (c .before .before .before .before .before .fits .n) (c .before .before .put-number .ensures .0) (c .before .before .before .before .before .pre)
+slice-write-out c = search (needs, end-room)
 
 add-result : tie.Need-add-result
 add-result c = omega arith
@@ -19,8 +18,7 @@ same-length : tie.Need-same-length
 same-length c = search needs
 
 returns : tie.Need-returns
-returns c =
-    end-put (c .before .before .before .before .before .args .n) _ _ _ _ (c .before .before .before .before .before .fits .n) (c .before .before .put-number .ensures .0) _
+returns c = search (needs, end-put, end-few)
 
 pub put-field-spec : {M : Type 1} → statement M
 put-field-spec =

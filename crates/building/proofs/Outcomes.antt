@@ -23,10 +23,9 @@ use Rattle.sheet.specs.Check.{checkOf}
 use Rattle.sheet.proofs.Good.{records-few, good-count, good-some}
 use Rattle.cube.specs.declared.Root.{Root}
 use Rattle.cube.specs.declared.Cube.{Cube}
-use Rattle.cube.specs.Limits.{inLimits, Near}
+use Rattle.cube.specs.Limits.{inLimits}
 use Rattle.cube.specs.Cubes.{rootCube}
 use Rattle.cube.proofs.Limits.{limits-sizes}
-use Rattle.cube.proofs.Cubes.{root-near, near-fewer}
 use Rattle.colour.specs.declared.State.{State}
 use Rattle.colour.specs.declared.Judged.{Judged}
 use Rattle.colour.specs.declared.Judged.the-variants.{Known, Past}
@@ -69,80 +68,68 @@ module _ (root : Root) (b : Bool) (e : b ≡ inLimits root) where
   pub within : not b ≡ false → inLimits root ≡ true
   within t = sym e ∙ not-false b t
 
--- ---- a root in its limits
-module _ (root : Root) (w : inLimits root ≡ true) where
-  pub root-small : root .k ≤ 16
-  root-small = limits-sizes root w .0
+-- ---- a root in its limits: q is what `cube` returned
+module _ (root : Root) (w : inLimits root ≡ true) (q : Cube) (is : q ≡ rootCube root) (rs : List Record) where
+  -- ---- reply 7: j is what `judge` returned
+  module _ (solid : ℕ) (j : Judged) (e : j ≡ judgedOf rs q solid) where
+    pub over-root : (n : ℕ) → j ≡ Past n → (d : List ℕ) → outcome (Refused (OverRoot n)) d ≡ overRootOf rs root d
+    unfolding overRootOf
+    over-root n h d = rw (w, past-first rs (rootCube root) q is solid j e n h)
 
-  -- q is what `cube` returned
-  module _ (q : Cube) (is : q ≡ rootCube root) where
-    pub near-all : Near (root .d) q
-    near-all = rw is (root-near root w)
+    -- ---- reply 11 does not come
+    pub no-smaller : (state : State) → j ≡ Known state → (d : List ℕ) (o : Outcome) → o ≡ storedOf (builtMap rs root) d → o ≡ overRootOf rs root d
+    unfolding overRootOf
+    no-smaller state h d o k =
+        let none = known-none rs (rootCube root) q is solid j e state h in
+        rw (w, none, none-below rs (root .d) (rootCube root) none) k
 
-    pub near-once : Near 0 q
-    near-once = near-fewer (root .d) 0 q near-all (omega arith)
+  pub still-none : firstPast rs (rootCube root) ≡ [] → firstPast rs q ≡ []
+  still-none h = rw is h
 
-    module _ (rs : List Record) where
-      -- ---- reply 7: j is what `judge` returned
-      module _ (solid : ℕ) (j : Judged) (e : j ≡ judgedOf rs q solid) where
-        pub over-root : (n : ℕ) → j ≡ Past n → (d : List ℕ) → outcome (Refused (OverRoot n)) d ≡ overRootOf rs root d
-        unfolding overRootOf
-        over-root n h d = rw (w, past-first rs (rootCube root) q is solid j e n h)
+  -- ---- reply 8, and the map: n is what `count` returned
+  module _ (n : ℕ) (count : n ≡ length (leavesBelow rs (root .d) q)) where
+    pub count-few : n ≤ 2 ^ 30
+    count-few = rw count (leaves-few rs (root .d) q (limits-sizes root w .1))
 
-        -- ---- reply 11 does not come
-        pub no-smaller : (state : State) → j ≡ Known state → (d : List ℕ) (o : Outcome) → o ≡ storedOf (builtMap rs root) d → o ≡ overRootOf rs root d
-        unfolding overRootOf
-        no-smaller state h d o k =
-            let none = known-none rs (rootCube root) q is solid j e state h in
-            rw (w, none, none-below rs (root .d) (rootCube root) none) k
+    pub count-fits : Fits w32 n
+    count-fits = record { fits = omega (arith, count-few) }
 
-      pub still-none : firstPast rs (rootCube root) ≡ [] → firstPast rs q ≡ []
-      still-none h = rw is h
+    pub leaves-fit : Fits w64 (3 * n)
+    leaves-fit = record { fits = omega (arith, count-few) }
 
-      -- ---- reply 8, and the map: n is what `count` returned
-      module _ (n : ℕ) (count : n ≡ length (leavesBelow rs (root .d) q)) where
-        pub count-few : n ≤ 2 ^ 30
-        count-few = rw count (leaves-few rs (root .d) q (limits-sizes root w .1))
+    pub need-fits : Fits w64 (19 + 3 * n)
+    need-fits = record { fits = omega (arith, count-few) }
 
-        pub count-fits : Fits w32 n
-        count-fits = record { fits = omega (arith, count-few) }
+    length-is : length (builtMap rs root) ≡ 19 + 3 * n
+    unfolding builtMap
+    length-is = map-length root _ ∙ rw (count, is)
 
-        pub leaves-fit : Fits w64 (3 * n)
-        leaves-fit = record { fits = omega (arith, count-few) }
+    pub too-short : (d : List ℕ) → length d < 19 + 3 * n → outcome (Refused (Short (19 + 3 * n))) d ≡ storedOf (builtMap rs root) d
+    unfolding storedOf
+    too-short d h = rw (length-is, lt-ltb (length d) (19 + 3 * n) h)
 
-        pub need-fits : Fits w64 (19 + 3 * n)
-        need-fits = record { fits = omega (arith, count-few) }
+    -- top is what `cube` returned again
+    module _ (d : List ℕ) (room : 19 + 3 * n ≤ length d) (d₁ : List ℕ) (header : d₁ ≡ sets d 0 (headerOf root n)) (top : Cube) (same : top ≡ rootCube root) where
+      abbrev ls : List Leaf
+      ls = leavesBelow rs (root .d) top
 
-        length-is : length (builtMap rs root) ≡ 19 + 3 * n
-        unfolding builtMap
-        length-is = map-length root _ ∙ rw (count, is)
+      count-is : n ≡ length ls
+      count-is = count ∙ rw (is, same)
 
-        pub too-short : (d : List ℕ) → length d < 19 + 3 * n → outcome (Refused (Short (19 + 3 * n))) d ≡ storedOf (builtMap rs root) d
+      pub write-room : 19 + 3 * length ls ≤ length d₁
+      write-room = rw (← count-is, header, length-sets d 0 (headerOf root n)) room
+
+      module _ (d₂ : List ℕ) (leaves : d₂ ≡ sets d₁ 19 (leavesBytes ls)) where
+        stored : d₂ ≡ sets d 0 (builtMap rs root)
+        unfolding builtMap mapOf
+        stored =
+            leaves
+            ∙ ap (λ (x : List ℕ). sets x 19 (leavesBytes ls)) header
+            ∙ sets-append d 0 19 (headerOf root n) (leavesBytes ls) (omega (arith, header-length root n))
+            ∙ rw (count-is, same)
+
+        pub whole : outcome (Done (19 + 3 * n)) d₂ ≡ storedOf (builtMap rs root) d
         unfolding storedOf
-        too-short d h = rw (length-is, lt-ltb (length d) (19 + 3 * n) h)
-
-        -- top is what `cube` returned again
-        module _ (d : List ℕ) (room : 19 + 3 * n ≤ length d) (d₁ : List ℕ) (header : d₁ ≡ sets d 0 (headerOf root n)) (top : Cube) (same : top ≡ rootCube root) where
-          abbrev ls : List Leaf
-          ls = leavesBelow rs (root .d) top
-
-          count-is : n ≡ length ls
-          count-is = count ∙ rw (is, same)
-
-          pub write-room : 19 + 3 * length ls ≤ length d₁
-          write-room = rw (← count-is, header, length-sets d 0 (headerOf root n)) room
-
-          module _ (d₂ : List ℕ) (leaves : d₂ ≡ sets d₁ 19 (leavesBytes ls)) where
-            stored : d₂ ≡ sets d 0 (builtMap rs root)
-            unfolding builtMap mapOf
-            stored =
-                leaves
-                ∙ ap (λ (x : List ℕ). sets x 19 (leavesBytes ls)) header
-                ∙ sets-append d 0 19 (headerOf root n) (leavesBytes ls) (omega (arith, header-length root n))
-                ∙ rw (count-is, same)
-
-            pub whole : outcome (Done (19 + 3 * n)) d₂ ≡ storedOf (builtMap rs root) d
-            unfolding storedOf
-            whole =
-                rw (length-is, le-ltb (length d) (19 + 3 * n) room)
-                (ap (outcome (Done (19 + 3 * n))) (stored ∙ sets-eq (builtMap rs root) d 0 (omega (arith, length-is)) ∙ rw (zero-add, length-is)))
+        whole =
+            rw (length-is, le-ltb (length d) (19 + 3 * n) room)
+            (ap (outcome (Done (19 + 3 * n))) (stored ∙ sets-eq (builtMap rs root) d 0 (omega (arith, length-is)) ∙ rw (zero-add, length-is)))

@@ -68,6 +68,18 @@ pub root-near : (r : Root) → inLimits r ≡ true → Near (r .d) (rootCube r)
 unfolding rootCube
 root-near r e = record { x = near-x r e; y = near-y r e; z = near-z r e; deep = omega (arith, limits-sizes r e .1) }
 
+-- what a function that has a root in its limits requires: q is what `cube` returned
+module _ (r : Root) (e : inLimits r ≡ true) where
+  pub root-small : r .k ≤ 16
+  root-small = limits-sizes r e .0
+
+  module _ (q : Cube) (is : q ≡ rootCube r) where
+    pub near-all : Near (r .d) q
+    near-all = rw is (root-near r e)
+
+    pub near-once : Near 0 q
+    near-once = near-fewer (r .d) 0 q near-all (omega arith)
+
 -- ---- cube
 pub root-told : (r : Root) (side : ℕ) → SFits w32 (r .x) → SFits w32 (r .y) → SFits w32 (r .z) → side ≡ 2 ^ r .k →
     _≡_ {A = Cube} (record { x = toZ w32 (ofZ w32 (r .x)); y = toZ w32 (ofZ w32 (r .y)); z = toZ w32 (ofZ w32 (r .z)); side = side; level = 0 }) (rootCube r)
@@ -75,11 +87,24 @@ unfolding rootCube
 root-told r side fx fy fz e = rw (toZ-ofZ fx, toZ-ofZ fy, toZ-ofZ fz, e)
 
 -- ---- child: h is what `half_of` returned
-pub step-fits : (h side : ℕ) → h < 2 → side ≤ 2 ^ 21 → Fits w32 (h * (side / 2))
-step-fits h side l s = record { fits = omega (arith, half-most h (side / 2) l) }
+module _ (q : Cube) (near : Near 1 q) (axis n h : ℕ) (e : h ≡ half axis n) where
+  step-most : h * (q .side / 2) ≤ q .side / 2
+  step-most = rw e (half-most (half axis n) (q .side / 2) (half-below axis n))
 
-pub step-room : (low : ℤ) (h side : ℕ) → SFits w32 low → h < 2 → natAbs low + side ≤ 2 ^ 21 → natAbs (toZ w32 (ofZ w32 low)) + h * (side / 2) ≤ 2 ^ 21
-step-room low h side f l s = rw (toZ-ofZ f) (omega (arith, half-most h (side / 2) l))
+  pub step-fits : Fits w32 (h * (q .side / 2))
+  step-fits = record { fits = omega (arith, step-most, near .x) }
+
+  step-room : (low : ℤ) → SFits w32 low → natAbs low + q .side ≤ 2 ^ 21 → natAbs (toZ w32 (ofZ w32 low)) + h * (q .side / 2) ≤ 2 ^ 21
+  step-room low f s = rw (toZ-ofZ f) (omega (arith, step-most))
+
+  pub step-x : SFits w32 (q .x) → natAbs (toZ w32 (ofZ w32 (q .x))) + h * (q .side / 2) ≤ 2 ^ 21
+  step-x f = step-room (q .x) f (near .x)
+
+  pub step-y : SFits w32 (q .y) → natAbs (toZ w32 (ofZ w32 (q .y))) + h * (q .side / 2) ≤ 2 ^ 21
+  step-y f = step-room (q .y) f (near .y)
+
+  pub step-z : SFits w32 (q .z) → natAbs (toZ w32 (ofZ w32 (q .z))) + h * (q .side / 2) ≤ 2 ^ 21
+  step-z f = step-room (q .z) f (near .z)
 
 -- the result of `moved`, passed on
 pub axis-told : (low x : ℤ) (a b : ℕ) → SFits w32 low → mag x < 2 ^ 31 → x ≡ toZ w32 (ofZ w32 low) +ℤ pos a → a ≡ b → toZ w32 (ofZ w32 x) ≡ low +ℤ pos b

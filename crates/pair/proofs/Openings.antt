@@ -23,8 +23,7 @@ use Rattle.cube.specs.declared.Root.{Root}
 use Rattle.cube.specs.declared.Cube.{Cube}
 use Rattle.cube.specs.Limits.{inLimits, Near}
 use Rattle.cube.specs.Cubes.{rootCube}
-use Rattle.cube.proofs.Limits.{limits-sizes}
-use Rattle.cube.proofs.Cubes.{root-near, near-fewer}
+use Rattle.cube.proofs.Cubes.{root-small, near-once}
 use Rattle.zonemap.specs.declared.Found.{Found}
 use Rattle.zonemap.specs.declared.Found.the-variants.{At, Bad}
 use Rattle.zonemap.specs.Opening.{rootOf, faultOf, placeOrFirst, foundOf}
@@ -106,10 +105,10 @@ module _ (s map : List ℕ) (none : pairRefusal s map ≡ []) where
     pair-within = rw is (opens-sizes (hasFace (recordsOf s)) map pair-opens .2)
 
     pub pair-small : pair .root .k ≤ 16
-    pair-small = limits-sizes (pair .root) pair-within .0
+    pair-small = root-small (pair .root) pair-within
 
     pub pair-near : (q : Cube) → q ≡ rootCube (pair .root) → Near 0 q
-    pair-near q e = rw e (near-fewer _ 0 _ (root-near (pair .root) pair-within) (omega arith))
+    pair-near q e = near-once (pair .root) pair-within q e
 
     -- the leaf's bytes are in the map
     pub pair-room : pair .at + 3 ≤ length map

@@ -1,6 +1,7 @@
 -- `building::building::over_root` meets its contract: the limits of the root, then the limit of the bounds over it.
+use Rattle.cube.proofs.Cubes.{root-small, near-once}
 use Rattle.colour.proofs.Told.{known-none}
-use Rattle.building.proofs.Outcomes.{outside, within, root-small, near-once, over-root, no-smaller}
+use Rattle.building.proofs.Outcomes.{outside, within, over-root, no-smaller}
 use borrow.Author.Needs.{needs}
 use Rattle.building.proofs.building.over_root.Statement.{statement}
 use Rattle.building.proofs.building.over_root.Tie as tie

@@ -1,6 +1,7 @@
 -- `building::building::stored` meets its contract: the header and the leaves behind it are the map.
 use native.Mathlib.Omega.{arith}
-use Rattle.building.proofs.Outcomes.{root-small, near-all, still-none, count-few, count-fits, leaves-fit, need-fits, too-short, write-room, whole}
+use Rattle.cube.proofs.Cubes.{root-small, near-all}
+use Rattle.building.proofs.Outcomes.{still-none, count-few, count-fits, leaves-fit, need-fits, too-short, write-room, whole}
 use borrow.Author.Needs.{needs}
 use Rattle.building.proofs.building.stored.Statement.{statement}
 use Rattle.building.proofs.building.stored.Tie as tie

@@ -1,6 +1,5 @@
 -- `cube::Cube::child` meets its contract: adding half a side on each axis loses no bit.
-use native.Mathlib.Omega.{arith}
-use Rattle.cube.proofs.Cubes.{step-fits, step-room, axis-told, product-told, child-told}
+use Rattle.cube.proofs.Cubes.{step-fits, step-x, step-y, step-z, axis-told, product-told, child-told}
 use borrow.Author.Needs.{needs}
 use Rattle.cube.proofs.Cube.child.Statement.{statement}
 use Rattle.cube.proofs.Cube.child.Tie as tie
@@ -9,34 +8,28 @@ half-of-requires : tie.Need-half-of-requires
 half-of-requires c κs = search needs
 
 mul-moved : tie.Need-mul-moved
-mul-moved c =
-    step-fits (c .half-of .result) (c .before .before .args .self .side) (omega arith) (omega arith)
+mul-moved c = search (needs, step-fits)
 
 moved-requires : tie.Need-moved-requires
-moved-requires c κs =
-    step-room (c .before .before .before .args .self .x) (c .before .half-of .result) (c .before .before .before .args .self .side) (search needs) (omega arith) (omega arith)
+moved-requires c κs = search (needs, step-x)
 
 half-of-requires-2 : tie.Need-half-of-requires-2
 half-of-requires-2 c κs = search needs
 
 mul-moved-2 : tie.Need-mul-moved-2
-mul-moved-2 c =
-    step-fits (c .half-of2 .result) (c .before .before .before .before .before .args .self .side) (omega arith) (omega arith)
+mul-moved-2 c = search (needs, step-fits)
 
 moved-requires-2 : tie.Need-moved-requires-2
-moved-requires-2 c κs =
-    step-room (c .before .before .before .before .before .before .args .self .y) (c .before .half-of2 .result) (c .before .before .before .before .before .before .args .self .side) (search needs) (omega arith) (omega arith)
+moved-requires-2 c κs = search (needs, step-y)
 
 half-of-requires-3 : tie.Need-half-of-requires-3
 half-of-requires-3 c κs = search needs
 
 mul-moved-3 : tie.Need-mul-moved-3
-mul-moved-3 c =
-    step-fits (c .half-of3 .result) (c .before .before .before .before .before .before .before .before .args .self .side) (omega arith) (omega arith)
+mul-moved-3 c = search (needs, step-fits)
 
 moved-requires-3 : tie.Need-moved-requires-3
-moved-requires-3 c κs =
-    step-room (c .before .before .before .before .before .before .before .before .before .args .self .z) (c .before .half-of3 .result) (c .before .before .before .before .before .before .before .before .before .args .self .side) (search needs) (omega arith) (omega arith)
+moved-requires-3 c κs = search (needs, step-z)
 
 add-t13 : tie.Need-add-t13
 add-t13 c = search needs

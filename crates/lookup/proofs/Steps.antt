@@ -103,8 +103,9 @@ module _ (rs : List Record) (root : Root) (p : Point) (h : Judgeable rs root p) 
     unfolding faceHolds
     face-known state b k g = g ∙ ap isIn (known-is rs (pointCube p) q is f j e state k)
 
-    pub face-past : {A : Type 0} (n : ℕ) → j ≡ Past n → A
-    face-past n k = let z : [] ≡ n ∷ [] = sym none-there ∙ past-first rs (pointCube p) q is f j e n k in let y : _≡_ {A = ℕ} 0 1 = cc in absurd (omega arith)
+    -- so the other case does not come
+    pub face-past : (n : ℕ) → j ≡ Past n → (b : Bool) → b ≡ faceHolds rs f p
+    face-past n k b = let z : [] ≡ n ∷ [] = sym none-there ∙ past-first rs (pointCube p) q is f j e n k in let y : _≡_ {A = ℕ} 0 1 = cc in absurd (omega arith)
 
 -- ---- the answer of a terminal leaf
 module _ (rs : List Record) (l : Leaf) (p : Point) where

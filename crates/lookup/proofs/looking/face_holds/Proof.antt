@@ -8,8 +8,7 @@ cube-requires : tie.Need-cube-requires
 cube-requires c κs = search needs
 
 judge-requires : tie.Need-judge-requires
-judge-requires c κs =
-    (c .before .before .before .pre .0, (c .before .before .before .pre .1 .0, point-near-there _ _ _ (c .before .before .before .pre .1 .1) _ (c .cube .ensures)))
+judge-requires c κs = search (needs, point-near-there)
 
 enum-known-state : tie.Need-enum-known-state
 enum-known-state c = search needs
@@ -21,12 +20,10 @@ enum-told : tie.Need-enum-told
 enum-told c = search needs
 
 returns : tie.Need-returns
-returns c =
-    face-known _ _ _ (c .before .before .before .before .before .before .before .before .pre .1 .1) _ (c .before .before .before .before .before .cube .ensures) _ _ (c .before .before .before .before .judge .ensures) _ _ (c .before .before .state .given .1) (c .is-in .ensures)
+returns c = search (needs, face-known)
 
 returns-2 : tie.Need-returns-2
-returns-2 c =
-    face-past _ _ _ (c .before .before .before .before .before .before .pre .1 .1) _ (c .before .before .before .cube .ensures) _ _ (c .before .before .judge .ensures) _ (c .enum-told .given .1)
+returns-2 c = search (needs, face-past)
 
 pub face-holds-spec : {M : Type 1} → statement M
 face-holds-spec =

@@ -38,8 +38,6 @@ module _ (s : List ℕ) (r : Root) (out after : List ℕ) (reply : Reply) (n : �
   whole : take n after ≡ map
   whole = rw (made .size, made .bytes) (take-append-seam map (drop (length map) out))
 
-  pub made-opens : (named : ℕ → Bool) × (faultOf named (take n after) ≡ [])
-  made-opens = rw whole (_, built-opens (recordsOf s) r (made .within))
-
-  pub made-root : r ≡ rootOf (take n after)
-  made-root = rw whole (sym (built-root (recordsOf s) r (made .within)))
+  -- what `leaves` requires
+  pub made-opens : ((named : ℕ → Bool) × (faultOf named (take n after) ≡ [])) × (r ≡ rootOf (take n after))
+  made-opens = rw whole ((_, built-opens (recordsOf s) r (made .within)), sym (built-root (recordsOf s) r (made .within)))

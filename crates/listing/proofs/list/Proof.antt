@@ -1,5 +1,5 @@
 -- `listing::list` meets its contract: a map that building returns opens.
-use Rattle.listing.proofs.Made.{made-room, made-length, made-opens, made-root}
+use Rattle.listing.proofs.Made.{made-room, made-length, made-opens}
 use borrow.Author.Needs.{needs}
 use Rattle.listing.proofs.list.Statement.{statement}
 use Rattle.listing.proofs.list.Tie as tie
@@ -32,7 +32,7 @@ slice-aggregate-leaves : tie.Need-slice-aggregate-leaves
 slice-aggregate-leaves c = search (needs, made-length)
 
 leaves-requires : tie.Need-leaves-requires
-leaves-requires c κs = (made-opens _ (c .before .before .before .before .before .before .before .before .before .before .before .root-of .result) _ _ _ _ (search needs) (search needs) (search needs) (c .before .before .before .before .before .build .ensures) (c .before .before .n .given .1), made-root _ (c .before .before .before .before .before .before .before .before .before .before .before .root-of .result) _ _ _ _ (search needs) (search needs) (search needs) (c .before .before .before .before .before .build .ensures) (c .before .before .n .given .1))
+leaves-requires c κs = made-opens _ (c .before .before .before .before .before .before .before .before .before .before .before .root-of .result) _ _ _ _ (search needs) (search needs) (search needs) (c .before .before .before .before .before .build .ensures) (c .before .before .n .given .1)
 
 enum-known-why : tie.Need-enum-known-why
 enum-known-why c = search needs

@@ -68,37 +68,37 @@ module _ (root : Root) (b : Bool) (e : b ≡ inLimits root) where
   pub within : not b ≡ false → inLimits root ≡ true
   within t = sym e ∙ not-false b t
 
--- ---- a root in its limits: q is what `cube` returned
-module _ (root : Root) (w : inLimits root ≡ true) (q : Cube) (is : q ≡ rootCube root) (rs : List Record) where
-  -- ---- reply 7: j is what `judge` returned
-  module _ (solid : ℕ) (j : Judged) (e : j ≡ judgedOf rs q solid) where
-    pub over-root : (n : ℕ) → j ≡ Past n → (d : List ℕ) → outcome (Refused (OverRoot n)) d ≡ overRootOf rs root d
-    unfolding overRootOf
-    over-root n h d = rw (w, past-first rs (rootCube root) q is solid j e n h)
+-- ---- reply 7: q is what `cube` returned, and j what `judge` did
+module _ (root : Root) (w : inLimits root ≡ true) (q : Cube) (is : q ≡ rootCube root) (rs : List Record) (solid : ℕ) (j : Judged) (e : j ≡ judgedOf rs q solid) where
+  pub over-root : (n : ℕ) → j ≡ Past n → (d : List ℕ) → outcome (Refused (OverRoot n)) d ≡ overRootOf rs root d
+  unfolding overRootOf
+  over-root n h d = rw (w, past-first rs (rootCube root) q is solid j e n h)
 
-    -- ---- reply 11 does not come
-    pub no-smaller : (state : State) → j ≡ Known state → (d : List ℕ) (o : Outcome) → o ≡ storedOf (builtMap rs root) d → o ≡ overRootOf rs root d
-    unfolding overRootOf
-    no-smaller state h d o k =
-        let none = known-none rs (rootCube root) q is solid j e state h in
-        rw (w, none, none-below rs (root .d) (rootCube root) none) k
+  -- ---- reply 11 does not come
+  pub no-smaller : (state : State) → j ≡ Known state → (d : List ℕ) (o : Outcome) → o ≡ storedOf (builtMap rs root) d → o ≡ overRootOf rs root d
+  unfolding overRootOf
+  no-smaller state h d o k =
+      let none = known-none rs (rootCube root) q is solid j e state h in
+      rw (w, none, none-below rs (root .d) (rootCube root) none) k
 
+-- ---- reply 8, and the map: q is what `cube` returned, and n what `count` did
+module _ (root : Root) (q : Cube) (is : q ≡ rootCube root) (rs : List Record) where
   pub still-none : firstPast rs (rootCube root) ≡ [] → firstPast rs q ≡ []
   still-none h = rw is h
 
-  -- ---- reply 8, and the map: n is what `count` returned
   module _ (n : ℕ) (count : n ≡ length (leavesBelow rs (root .d) q)) where
-    pub count-few : n ≤ 2 ^ 30
-    count-few = rw count (leaves-few rs (root .d) q (limits-sizes root w .1))
+    module _ (w : inLimits root ≡ true) where
+      pub count-few : n ≤ 2 ^ 30
+      count-few = rw count (leaves-few rs (root .d) q (limits-sizes root w .1))
 
-    pub count-fits : Fits w32 n
-    count-fits = record { fits = omega (arith, count-few) }
+      pub count-fits : Fits w32 n
+      count-fits = record { fits = omega (arith, count-few) }
 
-    pub leaves-fit : Fits w64 (3 * n)
-    leaves-fit = record { fits = omega (arith, count-few) }
+      pub leaves-fit : Fits w64 (3 * n)
+      leaves-fit = record { fits = omega (arith, count-few) }
 
-    pub need-fits : Fits w64 (19 + 3 * n)
-    need-fits = record { fits = omega (arith, count-few) }
+      pub need-fits : Fits w64 (19 + 3 * n)
+      need-fits = record { fits = omega (arith, count-few) }
 
     length-is : length (builtMap rs root) ≡ 19 + 3 * n
     unfolding builtMap

@@ -8,8 +8,7 @@ use native.Mathlib.Omega.{arith}
 use borrow.Author.Tests.{not-true, not-false, lt-ltb, le-ltb}
 use lib.IntN.{ℤ}
 use mir.Syntax.{w8, w32, w64}
-use mir.Val.{Fits, SFits, toZ, ofZ}
-use mir.Facts.{toZ-ofZ}
+use mir.Val.{Fits, SFits}
 use lib.ListN.{length}
 use lib.Seq.{sets, sets-eq, length-sets}
 use Rattle.integers.proofs.Stores.{sets-append}
@@ -25,6 +24,7 @@ use Rattle.cube.specs.declared.Root.{Root}
 use Rattle.cube.specs.declared.Cube.{Cube}
 use Rattle.cube.specs.Limits.{inLimits}
 use Rattle.cube.specs.Cubes.{rootCube}
+use Rattle.cube.proofs.Passed.{passedRoot, same-root}
 use Rattle.cube.proofs.Limits.{limits-sizes}
 use Rattle.colour.specs.declared.State.{State}
 use Rattle.colour.specs.declared.Judged.{Judged}
@@ -52,12 +52,11 @@ module _ (s : List ℕ) (r : Reply) (e : r ≡ checkOf s) where
     pub last-fits : Fits w8 (n - 1)
     last-fits = record { fits = omega (arith, last-is, records-few s) }
 
-    -- the root as its corner is handed to the call, read back from its bits
     pub good-sheet : (x y z : ℤ) → SFits w32 x → SFits w32 y → SFits w32 z → (k depth : ℕ) (d : List ℕ) (o : Outcome)
-        → o ≡ overRootOf (recordsOf s) (record { x = toZ w32 (ofZ w32 x); y = toZ w32 (ofZ w32 y); z = toZ w32 (ofZ w32 z); k = k; d = depth }) d
+        → o ≡ overRootOf (recordsOf s) (passedRoot x y z k depth) d
         → o ≡ buildOf s (record { x = x; y = y; z = z; k = k; d = depth }) d
     unfolding buildOf
-    good-sheet x y z fx fy fz k depth d o g = rw (sym e ∙ h) (rw (toZ-ofZ fx, toZ-ofZ fy, toZ-ofZ fz) at g)
+    good-sheet x y z fx fy fz k depth d o g = rw (sym e ∙ h) (rw (same-root x y z fx fy fz k depth) at g)
 
 -- ---- reply 6: b is what `is_within` returned
 module _ (root : Root) (b : Bool) (e : b ≡ inLimits root) where
@@ -74,14 +73,14 @@ module _ (root : Root) (w : inLimits root ≡ true) (q : Cube) (is : q ≡ rootC
   unfolding overRootOf
   over-root n h d = rw (w, past-first rs (rootCube root) q is solid j e n h)
 
-  -- ---- reply 11 does not come
+  -- ---- reply 11 is never given
   pub no-smaller : (state : State) → j ≡ Known state → (d : List ℕ) (o : Outcome) → o ≡ storedOf (builtMap rs root) d → o ≡ overRootOf rs root d
   unfolding overRootOf
   no-smaller state h d o k =
       let none = known-none rs (rootCube root) q is solid j e state h in
       rw (w, none, none-below rs (root .d) (rootCube root) none) k
 
--- ---- reply 8, and the map: q is what `cube` returned, and n what `count` did
+-- ---- reply 8, or the map: q is what `cube` returned, and n what `count` did
 module _ (root : Root) (q : Cube) (is : q ≡ rootCube root) (rs : List Record) where
   pub still-none : firstPast rs (rootCube root) ≡ [] → firstPast rs q ≡ []
   still-none h = rw is h
@@ -108,7 +107,7 @@ module _ (root : Root) (q : Cube) (is : q ≡ rootCube root) (rs : List Record) 
     unfolding storedOf
     too-short d h = rw (length-is, lt-ltb (length d) (19 + 3 * n) h)
 
-    -- top is what `cube` returned again
+    -- top is what `cube` returned the second time
     module _ (d : List ℕ) (room : 19 + 3 * n ≤ length d) (d₁ : List ℕ) (header : d₁ ≡ sets d 0 (headerOf root n)) (top : Cube) (same : top ≡ rootCube root) where
       abbrev ls : List Leaf
       ls = leavesBelow rs (root .d) top

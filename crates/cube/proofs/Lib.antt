@@ -9,3 +9,4 @@ pub mod Inverse
 pub mod InRoot
 pub mod Numbers
 pub mod Rows
+pub mod Passed

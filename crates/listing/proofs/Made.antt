@@ -7,27 +7,23 @@ use native.Mathlib.Omega.{arith}
 use lib.ListN.{length, take, drop, length-append}
 use lib.Seq.{length-take-le, take-append-seam}
 use mir.Syntax.{w32}
-use mir.Val.{SFits, toZ, ofZ}
-use mir.Facts.{toZ-ofZ}
+use mir.Val.{SFits}
 use Rattle.replies.specs.declared.Reply.{Reply}
 use Rattle.replies.specs.declared.Reply.the-variants.{Done}
 use Rattle.sheet.specs.Records.{recordsOf}
 use Rattle.cube.specs.declared.Root.{Root}
+use Rattle.cube.proofs.Passed.{passedRoot, same-root}
 use Rattle.zonemap.specs.Opening.{rootOf, faultOf}
 use Rattle.building.specs.Build.{outcome, builtMap, buildOf}
 use Rattle.building.proofs.Answers.{Made, done-made}
 use Rattle.roundtrip.proofs.Built.{built-opens, built-root}
 
--- the root as `build` gets it, its fields read back from their bits
-abbrev handed : Root → Root
-handed r = record { x = toZ w32 (ofZ w32 (r .x)); y = toZ w32 (ofZ w32 (r .y)); z = toZ w32 (ofZ w32 (r .z)); k = r .k; d = r .d }
-
-module _ (s : List ℕ) (r : Root) (out after : List ℕ) (reply : Reply) (n : ℕ) (x : SFits w32 (r .x)) (y : SFits w32 (r .y)) (z : SFits w32 (r .z)) (e : outcome reply after ≡ buildOf s (handed r) out) (t : reply ≡ Done n) where
+module _ (s : List ℕ) (r : Root) (out after : List ℕ) (reply : Reply) (n : ℕ) (x : SFits w32 (r .x)) (y : SFits w32 (r .y)) (z : SFits w32 (r .z)) (e : outcome reply after ≡ buildOf s (passedRoot (r .x) (r .y) (r .z) (r .k) (r .d)) out) (t : reply ≡ Done n) where
   abbrev map : List ℕ
   map = builtMap (recordsOf s) r
 
   made : Made n out after (recordsOf s) r
-  made = rw (toZ-ofZ x, toZ-ofZ y, toZ-ofZ z) at (done-made s (handed r) out after n (ap (λ (q : Reply). outcome q after) (sym t) ∙ e) .1)
+  made = rw (same-root (r .x) (r .y) (r .z) x y z (r .k) (r .d)) at (done-made s (passedRoot (r .x) (r .y) (r .z) (r .k) (r .d)) out after n (ap (λ (q : Reply). outcome q after) (sym t) ∙ e) .1)
 
   pub made-room : n ≤ length after
   made-room = omega (arith, made .size, ap length (made .bytes), length-append map (drop (length map) out))

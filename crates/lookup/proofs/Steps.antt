@@ -6,8 +6,7 @@ use Prim.Native.Nat.{ℕ}
 use native.Mathlib.Omega.{arith}
 use lib.IntN.{ℤ}
 use mir.Syntax.{w32}
-use mir.Val.{SFits, toZ, ofZ}
-use mir.Facts.{toZ-ofZ}
+use mir.Val.{SFits}
 use Rattle.integers.proofs.First.{bad-first}
 use Rattle.replies.specs.declared.Refusal.{Refusal}
 use Rattle.replies.specs.declared.Refusal.the-variants.{OverRoot, NotInRoot}
@@ -20,6 +19,7 @@ use Rattle.cube.specs.declared.Cube.{Cube}
 use Rattle.cube.specs.Limits.{Near}
 use Rattle.cube.specs.Cubes.{rootCube}
 use Rattle.cube.specs.Points.{holdsPoint, pointCube, placeOf}
+use Rattle.cube.proofs.Passed.{passedPoint, same-point}
 use Rattle.cube.proofs.Places.{point-near, point-inside}
 use Rattle.zonemap.specs.declared.Leaf.{Leaf}
 use Rattle.zonemap.specs.Opening.{rootOf, leafIn, offsetAt, placeOrFirst}
@@ -42,10 +42,8 @@ use Rattle.lookup.specs.declared.Reply.the-variants.{Done, Refused}
 use Rattle.lookup.specs.Lookup.{faceHolds, sideOf, answerOf, leafHolding, pointReply, lookupOf, answerNumber, numbered}
 use Rattle.lookup.specs.Inner.{Judgeable}
 
--- the point's coordinates are passed as their bits, and read back unchanged
-pub handed : (s map : List ℕ) (x y z : ℤ) → SFits w32 x → SFits w32 y → SFits w32 z → (r : Reply) → r ≡ lookupOf s map (record { x = toZ w32 (ofZ w32 x); y = toZ w32 (ofZ w32 y); z = toZ w32 (ofZ w32 z) })
-    → r ≡ lookupOf s map (record { x = x; y = y; z = z })
-handed s map x y z fx fy fz r e = rw (toZ-ofZ fx, toZ-ofZ fy, toZ-ofZ fz) at e
+pub handed : (s map : List ℕ) (x y z : ℤ) → SFits w32 x → SFits w32 y → SFits w32 z → (r : Reply) → r ≡ lookupOf s map (passedPoint x y z) → r ≡ lookupOf s map (record { x = x; y = y; z = z })
+handed s map x y z fx fy fz r e = rw (same-point x y z fx fy fz) at e
 
 -- ---- replies 1 to 5 and 9: o is what `pair::open` returned
 pub shut : (s map : List ℕ) (p : Point) (o : Opened) → o ≡ openedOf s map p → (why : Refusal) → o ≡ Shut why → Refused why ≡ lookupOf s map p
@@ -103,7 +101,7 @@ module _ (rs : List Record) (root : Root) (p : Point) (h : Judgeable rs root p) 
     unfolding faceHolds
     face-known state b k g = g ∙ ap isIn (known-is rs (pointCube p) q is f j e state k)
 
-    -- so the other case does not come
+    -- so the other case cannot occur
     pub face-past : (n : ℕ) → j ≡ Past n → (b : Bool) → b ≡ faceHolds rs f p
     face-past n k b = let z : [] ≡ n ∷ [] = sym none-there ∙ past-first rs (pointCube p) q is f j e n k in let y : _≡_ {A = ℕ} 0 1 = cc in absurd (omega arith)
 

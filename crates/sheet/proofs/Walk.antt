@@ -103,7 +103,7 @@ module _ (s : List ℕ) (c : Cursor) (n : ℕ) (w : At s c n) (k : Read) (is : k
     pub fewer-left : next .left < c .left
     fewer-left = omega (arith, fewer s c there, more-there .0)
 
-    -- a number that is an index of an array of 256, and is counted on
+    -- a number below 256: an index of the array, and one more still fits
     pub found-below : n < 256
     found-below = omega (arith, w .total, more-there .0)
 

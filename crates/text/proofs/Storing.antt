@@ -46,7 +46,7 @@ last-put n at r d o h p = rw (more-digits n h) (both-put _ _ _ _ _ _ _ _ p (byte
 pub number-counts : (n : ℤ) (at r : ℕ) (d o : List ℕ) → SFits w64 n → at + 20 ≤ length d → Puts (signedText n) at d r o → Counts r o
 number-counts n at r d o f l p = counts r o (omega (arith, signed-length n f, p, ap length (p .bytes) ∙ length-sets d at (signedText n)))
 
--- the sign leaves the length
+-- writing the sign keeps the length
 pub sign-kept : (d o : List ℕ) (at v : ℕ) → length o ≡ length (set d at v) → length o ≡ length d
 sign-kept d o at v e = e ∙ length-set d at v
 

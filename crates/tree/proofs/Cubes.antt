@@ -101,13 +101,13 @@ module _ (rs : List Record) where
     known-state state k =
         known-is rs q q refl solid j e state k ∙ ap (λ (n : ℕ). getD (entries q rs) n blank .state) (let z : solid ≡ length rs - 1 = omega arith in z)
 
-    -- so the other case does not come
+    -- so the other case cannot occur
     pub not-past : firstPast rs q ≡ [] → (n : ℕ) → j ≡ Past n → (state : State) → state ≡ solidState rs q
     not-past none n k state =
         let z : [] ≡ n ∷ [] = sym none ∙ past-first rs q q refl solid j e n k in
         let y : _≡_ {A = ℕ} 0 1 = ap length z in absurd (omega arith)
 
-  -- its class tells whether it is split
+  -- its class says whether it is split
   module _ (q : Cube) (state : State) (is : state ≡ solidState rs q) (class : ℕ) (of : class ≡ classOf state) (left : ℕ) where
     pub split-is : (left ≡ 0 → ⊥) → class ≡ 4 → Split rs left q
     unfolding isGray

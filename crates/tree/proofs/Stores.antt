@@ -89,7 +89,7 @@ module _ (rs : List Record) (left : ℕ) (q : Cube) (d : List ℕ) (at : ℕ) (o
               ∙ ap (sets d at) (sym (leaves-bytes-append (upto kids k) (kids k)) ∙ ap leavesBytes (sym (upto-more kids k)));
         }
 
--- the leaves of one child more: what `write` returned comes first, so that `search` can be handed it
+-- the leaves of one more child; what `write` returned is the first premise, so that it can be given to `search`
 pub writing-next : (rs : List Record) (left : ℕ) (child : Cube) (out : List ℕ) (next r : ℕ) (after : List ℕ) → Put (leavesBelow rs (left - 1) child) out next r after
     → (q : Cube) (d : List ℕ) (at k : ℕ) → Writing rs left q d at out next k → k < 8 → child ≡ childOf q k → Writing rs left q d at after r (k + 1)
 writing-next rs left child out next r after h q d at k w more is = next-is rs left q d at out next k w more child is r after h

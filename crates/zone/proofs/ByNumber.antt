@@ -4,14 +4,14 @@ use mathlib.Core.List.{List}
 use Prim.Native.Nat.{ℕ}
 use lib.IntN.{ℤ}
 use mir.Syntax.{w32}
-use mir.Val.{SFits, toZ, ofZ}
-use mir.Facts.{toZ-ofZ}
+use mir.Val.{SFits}
 use Rattle.replies.specs.declared.Refusal.{Refusal}
 use Rattle.replies.specs.declared.Reply.{Reply}
 use Rattle.replies.specs.declared.Reply.the-variants.{Done, Refused}
 use Rattle.replies.specs.Table.{codeOf, numberOf}
 use Rattle.replies.proofs.Told.{no-code-0}
 use Rattle.sheet.specs.Check.{checkOf}
+use Rattle.cube.proofs.Passed.{passedPoint, passedRoot, same-point, same-root}
 use Rattle.zonemap.specs.Opening.{openOf}
 use Rattle.building.specs.Build.{outcome, buildOf}
 use Rattle.lookup.specs.declared.Reply.{Reply as LookupReply}
@@ -45,13 +45,13 @@ module _ (r : Reply) (told : ZoneReply) (t : told ≡ byNumber r) where
 -- x, y and z are passed on as their bits
 module _ (x y z : ℤ) (fx : SFits w32 x) (fy : SFits w32 y) (fz : SFits w32 z) where
   pub builds : (r : Reply) (told : ZoneReply) → told ≡ byNumber r → (s : List ℕ) (k d : ℕ) (out after : List ℕ)
-      → outcome r after ≡ buildOf s (record { x = toZ w32 (ofZ w32 x); y = toZ w32 (ofZ w32 y); z = toZ w32 (ofZ w32 z); k = k; d = d }) out
+      → outcome r after ≡ buildOf s (passedRoot x y z k d) out
       → zoneOutcome told after ≡ zoneBuildOf s (record { x = x; y = y; z = z; k = k; d = d }) out
   unfolding zoneBuildOf
-  builds r told t s k d out after e = rw t (ap outcomeByNumber (rw (toZ-ofZ fx, toZ-ofZ fy, toZ-ofZ fz) at e))
+  builds r told t s k d out after e = rw t (ap outcomeByNumber (rw (same-root x y z fx fy fz k d) at e))
 
   pub looks-up : (l : LookupReply) (r : Reply) → r ≡ numbered l → (told : ZoneReply) → told ≡ byNumber r → (s map : List ℕ)
-      → l ≡ lookupOf s map (record { x = toZ w32 (ofZ w32 x); y = toZ w32 (ofZ w32 y); z = toZ w32 (ofZ w32 z) })
+      → l ≡ lookupOf s map (passedPoint x y z)
       → told ≡ zoneLookupOf s map (record { x = x; y = y; z = z })
   unfolding zoneLookupOf
-  looks-up l r n told t s map e = t ∙ ap byNumber (n ∙ ap numbered (rw (toZ-ofZ fx, toZ-ofZ fy, toZ-ofZ fz) at e))
+  looks-up l r n told t s map e = t ∙ ap byNumber (n ∙ ap numbered (rw (same-point x y z fx fy fz) at e))

@@ -62,7 +62,7 @@ module _ (r : Root) (d d₁ d₂ d₃ : List ℕ) (fx : SFits w32 (r .x)) (fy : 
       second : (u v : ℕ) → 13 ≡ 5 + length (bytesOf 4 u ++ bytesOf 4 v)
       second u v = omega (arith, length-append (bytesOf 4 u) (bytesOf 4 v), bytes-length 4 u, bytes-length 4 v)
 
--- put_header: d₁ and d₂ are what the calls left
+-- put_header: d₁ and d₂ are the buffer after each call
 module _ (n : ℕ) (d d₁ : List ℕ) (e : d₁ ≡ sets d 0 (bytesOf 4 (15 + 3 * n))) where
   abbrev count : List ℕ
   count = bytesOf 4 (15 + 3 * n)

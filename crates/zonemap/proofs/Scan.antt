@@ -1,4 +1,4 @@
--- The scan over a map's leaves: the needs of `scan`, each as it stands.
+-- The loop over a map's leaves: what the proof of `scan` needs.
 use mathlib.Core.Path.{_≡_, refl, _∙_}
 use mathlib.Core.Bool.{Bool, cond}
 use mathlib.Core.List.{List, [], _∷_}
@@ -69,7 +69,7 @@ module _ (named : ℕ → Bool) (s : List ℕ) (d m : ℕ) where
     pub scan-below : place ≤ 2 ^ 30
     scan-below = omega (arith, i .room, i .small)
 
-    -- l is what `leaf_at` returned, r what `good_size` did and f what `last_before` did
+    -- l, r and f are what `leaf_at`, `good_size` and `last_before` returned
     module _ (l : Leaf) (el : l ≡ leafIn s at) (r : ℕ) (er : r ≡ Sized named d place l) where
       pub scan-fits : Fits w32 (place + r)
       scan-fits = record { fits = omega (arith, sized-room named d place l r er (i .room), i .small) }
@@ -93,7 +93,7 @@ module _ (named : ℕ → Bool) (s : List ℕ) (d m : ℕ) where
               same-leaf = rw (o .1, ef) (offset-on d m place at found l (leavesFrom s (at + 3)) ∙ rw left at (i .same-leaf));
             }
 
-    -- w is what `eight_to` returned of d
+    -- w is what `eight_to d` returned
     module _ (h : length s ≤ at) (w : ℕ) (e : w ≡ 8 ^ d) where
       pub scan-short : place < w → Bad at ≡ Answer
       unfolding leavesFault

@@ -1,4 +1,4 @@
--- `contents::records` ends, and its count stays below 257: n records came before the cursor.
+-- `contents::records` ends, and its count stays below 257: the cursor has n records before it.
 use borrow.Author.Needs.{needs}
 use Rattle.sheet.proofs.Walk.{At, at-start, at-next, fewer-left, found-fits}
 use Rattle.contents.proofs.records.Statement.{statement}

@@ -1,4 +1,4 @@
--- `building::building::stored` meets its contract: the header and the leaves behind it are the map.
+-- `building::building::stored` meets its contract: the header and the leaves after it are the map.
 use native.Mathlib.Omega.{arith}
 use Rattle.cube.proofs.Cubes.{root-small, near-all}
 use Rattle.building.proofs.Outcomes.{still-none, count-few, count-fits, leaves-fit, need-fits, too-short, write-room, whole}

@@ -1,4 +1,4 @@
--- The proof of the cycle of calls {count}. The measure is the levels left; the invariant is `Counting`: so many children were counted.
+-- `tree::leaves::count` calls itself. The measure is the levels left; the invariant is `Counting`: k children were counted.
 use borrow.Author.Needs.{needs}
 use native.Mathlib.Omega.{arith}
 use Prim.Native.Nat.{_-_}

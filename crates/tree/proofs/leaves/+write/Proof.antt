@@ -1,4 +1,5 @@
--- The proof of the cycle of calls {write}. The measure is the levels left; the invariant is `Writing`: the leaves of so many children stand in the buffer, and the rest is as it was.
+-- `tree::leaves::write` calls itself. The measure is the levels left; the invariant is `Writing`: the leaves of k children are in the buffer, and the rest is
+-- unchanged.
 use borrow.Author.Needs.{needs}
 use native.Mathlib.Omega.{arith}
 use Prim.Native.Nat.{_-_}

@@ -1,4 +1,4 @@
--- `tree::leaves::solid_state` meets its contract: where no record passes the limit, the state is known.
+-- `tree::leaves::solid_state` meets its contract: if no record passes the limit, the state is known.
 use Rattle.tree.proofs.Cubes.{known-state, not-past}
 use borrow.Author.Needs.{needs}
 use Rattle.tree.proofs.leaves.solid_state.Statement.{statement}

@@ -1,4 +1,4 @@
--- `zonemap::opening::scan` meets its contract: the leaves that are left tell what the whole does.
+-- `zonemap::opening::scan` meets its contract: the remaining leaves determine what the whole list does.
 use borrow.Author.Needs.{needs}
 use Prim.Native.Nat.{_-_}
 use native.Mathlib.Omega.{arith}

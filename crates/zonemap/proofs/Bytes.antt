@@ -62,20 +62,17 @@ module _ (r : Root) (d d₁ d₂ d₃ : List ℕ) (fx : SFits w32 (r .x)) (fy : 
       second : (u v : ℕ) → 13 ≡ 5 + length (bytesOf 4 u ++ bytesOf 4 v)
       second u v = omega (arith, length-append (bytesOf 4 u) (bytesOf 4 v), bytes-length 4 u, bytes-length 4 v)
 
--- put_header: d₁ and d₂ are the buffer after each call
-module _ (n : ℕ) (d d₁ : List ℕ) (e : d₁ ≡ sets d 0 (bytesOf 4 (15 + 3 * n))) where
-  abbrev count : List ℕ
-  count = bytesOf 4 (15 + 3 * n)
+-- put_header: d₁ and d₂ are the buffer after each call, whatever bytes they wrote
+module _ (d d₁ vs : List ℕ) (e : d₁ ≡ sets d 0 vs) (version : ℕ) where
+  left : length (set d₁ 4 version) ≡ length d
+  left = length-set d₁ 4 version ∙ ap length e ∙ length-sets d 0 vs
 
-  left : length (set d₁ 4 1) ≡ length d
-  left = length-set d₁ 4 1 ∙ ap length e ∙ length-sets d 0 count
-
-  pub corner-room : 19 ≤ length d → 17 ≤ length (set d₁ 4 1)
+  pub corner-room : 19 ≤ length d → 17 ≤ length (set d₁ 4 version)
   corner-room h = omega (arith, left)
 
-  module _ (r : Root) (d₂ : List ℕ) (f : d₂ ≡ sets (set d₁ 4 1) 5 (cornerBytes r)) where
+  module _ (d₂ ws : List ℕ) (f : d₂ ≡ sets (set d₁ 4 version) 5 ws) where
     kept : length d₂ ≡ length d
-    kept = ap length f ∙ length-sets (set d₁ 4 1) 5 (cornerBytes r) ∙ left
+    kept = ap length f ∙ length-sets (set d₁ 4 version) 5 ws ∙ left
 
     pub k-room : 19 ≤ length d → 17 < length d₂
     k-room h = omega (arith, kept)
@@ -86,11 +83,15 @@ module _ (n : ℕ) (d d₁ : List ℕ) (e : d₁ ≡ sets d 0 (bytesOf 4 (15 + 3
     pub header-kept : (k depth : ℕ) → length (set (set d₂ 17 k) 18 depth) ≡ length d
     header-kept k depth = rw (length-set, length-set) kept
 
-    pub header-stored : set (set d₂ 17 (r .k)) 18 (r .d) ≡ sets d 0 (headerOf r n)
-    unfolding headerOf
-    header-stored =
-        rw (f, e)
-        (ap (λ (l : List ℕ). sets (sets l 5 (cornerBytes r)) 17 (r .k ∷ r .d ∷ [])) (sets-append d 0 4 count (1 ∷ []) (omega (arith, bytes-length 4 (15 + 3 * n))))
-        ∙ ap (λ (l : List ℕ). sets l 17 (r .k ∷ r .d ∷ [])) (sets-append d 0 5 (count ++ 1 ∷ []) (cornerBytes r) (omega (arith, length-append count (1 ∷ []), bytes-length 4 (15 + 3 * n))))
-        ∙ sets-append d 0 17 (count ++ 1 ∷ [] ++ cornerBytes r) (r .k ∷ r .d ∷ [])
-        (omega (arith, length-append (count ++ 1 ∷ []) (cornerBytes r), length-append count (1 ∷ []), bytes-length 4 (15 + 3 * n), corner-length r)))
+module _ (r : Root) (n : ℕ) (d d₁ d₂ : List ℕ) where
+  abbrev count : List ℕ
+  count = bytesOf 4 (15 + 3 * n)
+
+  pub header-stored : d₁ ≡ sets d 0 count → d₂ ≡ sets (set d₁ 4 1) 5 (cornerBytes r) → set (set d₂ 17 (r .k)) 18 (r .d) ≡ sets d 0 (headerOf r n)
+  unfolding headerOf
+  header-stored e f =
+      rw (f, e)
+      (ap (λ (l : List ℕ). sets (sets l 5 (cornerBytes r)) 17 (r .k ∷ r .d ∷ [])) (sets-append d 0 4 count (1 ∷ []) (omega (arith, bytes-length 4 (15 + 3 * n))))
+      ∙ ap (λ (l : List ℕ). sets l 17 (r .k ∷ r .d ∷ [])) (sets-append d 0 5 (count ++ 1 ∷ []) (cornerBytes r) (omega (arith, length-append count (1 ∷ []), bytes-length 4 (15 + 3 * n))))
+      ∙ sets-append d 0 17 (count ++ 1 ∷ [] ++ cornerBytes r) (r .k ∷ r .d ∷ [])
+      (omega (arith, length-append (count ++ 1 ∷ []) (cornerBytes r), length-append count (1 ∷ []), bytes-length 4 (15 + 3 * n), corner-length r)))

@@ -8,7 +8,7 @@ use borrow.Author.Tests.{ltb-false}
 use lib.Dec.{ltb}
 use lib.ListN.{length, drop}
 use Rattle.integers.proofs.Order.{by-test}
-use Rattle.replies.specs.declared.Refusal.the-variants.{Limits, OverRoot, OverSmaller, Short}
+use Rattle.replies.specs.declared.Refusal.the-variants.{Limits, OverRoot, Short}
 use Rattle.replies.specs.declared.Reply.{Reply}
 use Rattle.replies.specs.declared.Reply.the-variants.{Done, Refused}
 use Rattle.replies.specs.Table.{refusalOf}
@@ -19,7 +19,6 @@ use Rattle.cube.specs.declared.Root.{Root}
 use Rattle.cube.specs.Limits.{inLimits}
 use Rattle.cube.specs.Cubes.{rootCube}
 use Rattle.colour.specs.Entries.{firstPast}
-use Rattle.tree.specs.Solid.{pastInTree}
 use Rattle.integers.specs.First.{onFirst}
 use Rattle.integers.proofs.First.{none-first}
 use Rattle.building.specs.Build.{Outcome, outcome, builtMap, storedOf, overRootOf, buildOf}
@@ -54,24 +53,21 @@ module _ (n : ℕ) (out after : List ℕ) where
   pub record Made (rs : List Record) (root : Root) : Type 0 where
     pub within : inLimits root ≡ true
     pub none : firstPast rs (rootCube root) ≡ []
-    pub below : pastInTree rs (root .d) (rootCube root) ≡ []
     pub size : n ≡ length (builtMap rs root)
     pub room : n ≤ length out
     pub bytes : after ≡ builtMap rs root ++ drop (length (builtMap rs root)) out
 
   module _ (rs : List Record) (root : Root) where
-    stored-made : inLimits root ≡ true → firstPast rs (rootCube root) ≡ [] → (pastInTree rs (root .d) (rootCube root) ≡ []) × (done ≡ storedOf (builtMap rs root) out) → Made rs root
-    stored-made w p e =
+    stored-made : inLimits root ≡ true → (firstPast rs (rootCube root) ≡ []) × (done ≡ storedOf (builtMap rs root) out) → Made rs root
+    stored-made w e =
         let t = stored (builtMap rs root) (e .1) in
-        record { within = w; none = p; below = e .0; size = t .0; room = omega (arith, t .0, t .1); bytes = t .2 }
+        record { within = w; none = e .0; size = t .0; room = omega (arith, t .0, t .1); bytes = t .2 }
 
     solid-made : done ≡ overRootOf rs root out → Made rs root
     unfolding overRootOf
     solid-made e =
         by-test (inLimits root)
-        (λ h.
-        let p = not-first (firstPast rs (rootCube root)) (λ k. outcome (Refused (OverRoot k)) out) _ (λ k. refl) (rw h at e) in
-        stored-made h (p .0) (not-first (pastInTree rs (root .d) (rootCube root)) (λ k. outcome (Refused (OverSmaller k)) out) _ (λ k. refl) (p .1)))
+        (λ h. stored-made h (not-first (firstPast rs (rootCube root)) (λ k. outcome (Refused (OverRoot k)) out) _ (λ k. refl) (rw h at e)))
         (λ h. no-other (outcome (Refused Limits) out) refl (rw h at e))
 
 module _ (s : List ℕ) (root : Root) (out after : List ℕ) (n : ℕ) where

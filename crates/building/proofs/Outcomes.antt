@@ -36,7 +36,7 @@ use Rattle.zonemap.specs.Map.{headerOf, leavesBytes, mapOf}
 use Rattle.zonemap.proofs.Bytes.{header-length, map-length}
 use Rattle.tree.specs.Solid.{leavesBelow}
 use Rattle.building.specs.Build.{Outcome, outcome, builtMap, storedOf, overRootOf, buildOf}
-use Rattle.tree.proofs.Cubes.{leaves-few, none-below}
+use Rattle.tree.proofs.Cubes.{leaves-few}
 
 -- ---- replies 1 to 5: r is what `check` returned
 module _ (s : List ℕ) (r : Reply) (e : r ≡ checkOf s) where
@@ -73,12 +73,9 @@ module _ (root : Root) (w : inLimits root ≡ true) (q : Cube) (is : q ≡ rootC
   unfolding overRootOf
   over-root n h d = rw (w, past-first rs (rootCube root) q is solid j e n h)
 
-  -- ---- reply 11 is never given
-  pub no-smaller : (state : State) → j ≡ Known state → (d : List ℕ) (o : Outcome) → o ≡ storedOf (builtMap rs root) d → o ≡ overRootOf rs root d
+  pub under-limit : (state : State) → j ≡ Known state → (d : List ℕ) (o : Outcome) → o ≡ storedOf (builtMap rs root) d → o ≡ overRootOf rs root d
   unfolding overRootOf
-  no-smaller state h d o k =
-      let none = known-none rs (rootCube root) q is solid j e state h in
-      rw (w, none, none-below rs (root .d) (rootCube root) none) k
+  under-limit state h d o k = rw (w, known-none rs (rootCube root) q is solid j e state h) k
 
 -- ---- reply 8, or the map: q is what `cube` returned, and n what `count` did
 module _ (root : Root) (q : Cube) (is : q ≡ rootCube root) (rs : List Record) where

@@ -10,15 +10,12 @@ use Rattle.sheet.specs.Along.{along, onward}
 use Rattle.sheet.specs.StepRoom.{stepSheet, stepRecords}
 use Rattle.sheet.proofs.StepRoom.{step-records, step-check}
 use Rattle.cube.specs.Limits.{axisFits, sizesFit, inLimits}
-use Rattle.cube.specs.Cubes.{rootCube, childOf}
+use Rattle.cube.specs.Cubes.{rootCube}
 use Rattle.colour.specs.Bounds.{across, boundsOf}
-use Rattle.colour.specs.States.{faceState, otherwiseOf, joinedBy, stateOf}
-use Rattle.colour.specs.Entries.{faceBounds, entryOf, pastFrom, firstPast}
+use Rattle.colour.specs.Entries.{entryOf, pastFrom, firstPast}
 use Rattle.zonemap.specs.declared.Leaf.{Leaf}
 use Rattle.zonemap.specs.Map.{leafBytes, leavesBytes, cornerBytes, headerOf, mapOf}
 use Rattle.zonemap.specs.StepRoom.{stepRoot, stepMap}
-use Rattle.tree.specs.Visit.{upto, visit}
-use Rattle.tree.specs.Solid.{solidState, isGray, pastInTree}
 use Rattle.tree.proofs.Rows.{leaf, depth-0, depth-1}
 use Rattle.building.specs.Build.{builtMap, storedOf, overRootOf, buildOf}
 
@@ -28,35 +25,34 @@ unfolding builtMap mapOf headerOf cornerBytes bytesOf unsigned32 leavesBytes lea
 map-1 = ap (mapOf (stepRoot 1)) depth-1
 
 -- ---- what building returns
--- the root is within limits, and no record passes 2^60 over any cube of the tree
-abbrev Plain : ℕ → Type 0
-Plain d = (inLimits (stepRoot d) ≡ true) × (firstPast stepRecords (rootCube (stepRoot d)) ≡ []) × (pastInTree stepRecords d (rootCube (stepRoot d)) ≡ [])
+-- no record passes 2^60 over the root
+step-none : (d : ℕ) → firstPast stepRecords (rootCube (stepRoot d)) ≡ []
+unfolding firstPast along onward entryOf boundsOf across sum difference rootCube pastFrom isWithin isSmall
+step-none d = refl
 
-plain-0 : Plain 0
-unfolding inLimits sizesFit axisFits firstPast pastInTree visit upto isGray solidState along onward entryOf faceBounds boundsOf stateOf across sum difference faceState joinedBy otherwiseOf rootCube childOf pastFrom isWithin isSmall
-plain-0 = (refl, refl, refl)
+-- the depths in document 01
+record Within : Type 0 where
+  at-0 : inLimits (stepRoot 0) ≡ true
+  at-1 : inLimits (stepRoot 1) ≡ true
+  at-2 : inLimits (stepRoot 2) ≡ true
 
-plain-1 : Plain 1
-unfolding inLimits sizesFit axisFits firstPast pastInTree visit upto isGray solidState along onward entryOf faceBounds boundsOf stateOf across sum difference faceState joinedBy otherwiseOf rootCube childOf pastFrom isWithin isSmall
-plain-1 = (refl, refl, refl)
+within : Within
+unfolding inLimits sizesFit axisFits
+within = record { at-0 = refl; at-1 = refl; at-2 = refl }
 
-plain-2 : Plain 2
-unfolding inLimits sizesFit axisFits firstPast pastInTree visit upto isGray solidState along onward entryOf faceBounds boundsOf stateOf across sum difference faceState joinedBy otherwiseOf rootCube childOf pastFrom isWithin isSmall
-plain-2 = (refl, refl, refl)
-
-step-build : (d : ℕ) → Plain d → (out : List ℕ) → buildOf stepSheet (stepRoot d) out ≡ storedOf (builtMap stepRecords (stepRoot d)) out
+step-build : (d : ℕ) → inLimits (stepRoot d) ≡ true → (out : List ℕ) → buildOf stepSheet (stepRoot d) out ≡ storedOf (builtMap stepRecords (stepRoot d)) out
 unfolding buildOf overRootOf
-step-build d p out = rw (step-check, step-records, p .0, p .1, p .2)
+step-build d within out = rw (step-check, step-records, within, step-none d)
 
 -- S at d 0: 22 bytes
 pub build-0 : (out : List ℕ) → buildOf stepSheet (stepRoot 0) out ≡ storedOf (mapOf (stepRoot 0) (leaf 0 4 0 ∷ [])) out
 unfolding builtMap
-build-0 out = step-build 0 plain-0 out ∙ ap (λ (ls : List Leaf). storedOf (mapOf (stepRoot 0) ls) out) depth-0
+build-0 out = step-build 0 (within .at-0) out ∙ ap (λ (ls : List Leaf). storedOf (mapOf (stepRoot 0) ls) out) depth-0
 
 -- S at d 1: the 43 bytes above
 pub build-1 : (out : List ℕ) → buildOf stepSheet (stepRoot 1) out ≡ storedOf stepMap out
-build-1 out = step-build 1 plain-1 out ∙ ap (λ (m : List ℕ). storedOf m out) map-1
+build-1 out = step-build 1 (within .at-1) out ∙ ap (λ (m : List ℕ). storedOf m out) map-1
 
 -- S at d 2: 85 bytes
 pub build-2 : (out : List ℕ) → buildOf stepSheet (stepRoot 2) out ≡ storedOf (builtMap stepRecords (stepRoot 2)) out
-build-2 out = step-build 2 plain-2 out
+build-2 out = step-build 2 (within .at-2) out

@@ -5,7 +5,7 @@ use mathlib.Core.List.{List, _++_}
 use lib.Dec.{ltb}
 use lib.ListN.{length, drop}
 use Rattle.integers.specs.First.{onFirst}
-use Rattle.replies.specs.declared.Refusal.the-variants.{Limits, OverRoot, OverSmaller, Short}
+use Rattle.replies.specs.declared.Refusal.the-variants.{Limits, OverRoot, Short}
 use Rattle.replies.specs.declared.Reply.{Reply}
 use Rattle.replies.specs.declared.Reply.the-variants.{Done, Refused}
 use Rattle.replies.specs.Table.{refusalOf}
@@ -17,7 +17,7 @@ use Rattle.cube.specs.Limits.{inLimits}
 use Rattle.cube.specs.Cubes.{rootCube}
 use Rattle.zonemap.specs.Map.{mapOf}
 use Rattle.colour.specs.Entries.{firstPast}
-use Rattle.tree.specs.Solid.{leavesBelow, pastInTree}
+use Rattle.tree.specs.Solid.{leavesBelow}
 
 -- the reply, and the bytes of the lent buffer afterwards
 pub record Outcome : Type 0 where
@@ -42,8 +42,7 @@ unfoldable pub overRootOf : List Record → Root → List ℕ → Outcome
 overRootOf rs root out =
     cond (not (inLimits root)) (outcome (Refused Limits) out)
     (onFirst (firstPast rs (rootCube root)) (λ n. outcome (Refused (OverRoot n)) out)
-    (onFirst (pastInTree rs (root .d) (rootCube root)) (λ n. outcome (Refused (OverSmaller n)) out)
-    (storedOf (builtMap rs root) out)))
+    (storedOf (builtMap rs root) out))
 
 -- building by the table of replies, row by row: first replies 1 to 5
 unfoldable pub buildOf : List ℕ → Root → List ℕ → Outcome

@@ -72,5 +72,9 @@ pub keep-none : (rs : List Record) (q : Cube) → Keep (entries q rs) → firstP
 unfolding firstPast
 keep-none rs q k = none-past 0 (entries q rs) k
 
-pub none-smaller : (q outer : Cube) → CubeInside q outer → (rs : List Record) → firstPast rs outer ≡ [] → firstPast rs q ≡ []
-none-smaller q outer h rs e = keep-none rs q (λ a. inside-small _ _ (bounds-inside q outer h rs a) (none-keep rs outer e a))
+module _ (q outer : Cube) (h : CubeInside q outer) (rs : List Record) where
+  pub keep-smaller : Keep (entries outer rs) → Keep (entries q rs)
+  keep-smaller k a = inside-small _ _ (bounds-inside q outer h rs a) (k a)
+
+  pub none-smaller : firstPast rs outer ≡ [] → firstPast rs q ≡ []
+  none-smaller e = keep-none rs q (keep-smaller (none-keep rs outer e))

@@ -15,7 +15,7 @@ use Rattle.replies.specs.declared.Refusal.the-variants.{OverRoot}
 use Rattle.replies.specs.declared.Reply.{Reply as Counted}
 use Rattle.replies.specs.declared.Reply.the-variants.{Done as Counts, Refused as Refuses}
 use Rattle.replies.specs.Table.{refusalOf}
-use Rattle.replies.proofs.Told.{no-code-0, not-refused}
+use Rattle.replies.proofs.Told.{no-code, not-refused}
 use Rattle.sheet.specs.declared.Record.{Record}
 use Rattle.sheet.specs.Records.{recordsOf}
 use Rattle.sheet.specs.Check.{checkOf}
@@ -70,7 +70,7 @@ module _ (sheet map : List ℕ) (p : Point) where
   looks-up-only : zoneLookupOf sheet map p .code ≡ 0 → CanLookUp sheet map p
   unfolding zoneLookupOf lookupOf pointReply
   looks-up-only e =
-      let opened = none-first Answers Refused _ (pairRefusal sheet map) no-code-0 e in
+      let opened = none-first Answers Refused _ (pairRefusal sheet map) (no-code 0 refl) e in
       let over = none-first Answers (λ n. Refused (OverRoot n)) _ (firstPast rs (rootCube (rootOf map))) (λ at z. omega arith) (opened .1) in
       let good = not-refused (checkOf sheet) (pair-good sheet map (opened .0)) in
       by-test (holdsPoint (rootCube (rootOf map)) p)

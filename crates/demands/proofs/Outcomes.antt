@@ -9,7 +9,7 @@ use lib.ListN.{length}
 use Rattle.integers.specs.First.{onFirst}
 use Rattle.integers.proofs.First.{each-first}
 use Rattle.integers.proofs.Order.{by-test}
-use Rattle.replies.specs.declared.Refusal.the-variants.{OverRoot, OverSmaller}
+use Rattle.replies.specs.declared.Refusal.the-variants.{OverRoot}
 use Rattle.replies.specs.declared.Reply.{Reply}
 use Rattle.replies.specs.declared.Reply.the-variants.{Done, Refused}
 use Rattle.replies.specs.Table.{refusalOf}
@@ -23,7 +23,6 @@ use Rattle.cube.specs.Cubes.{rootCube}
 use Rattle.cube.proofs.Numbers.{within-limits, limits-within, out-of-limits}
 use Rattle.colour.specs.Entries.{firstPast}
 use Rattle.colour.proofs.Smaller.{none-keep, keep-none}
-use Rattle.tree.specs.Solid.{pastInTree}
 use Rattle.building.specs.Build.{Outcome, outcome, builtMap, storedOf, overRootOf, buildOf}
 use Rattle.building.proofs.Answers.{Made, done-made}
 use Rattle.zone.specs.declared.ZoneReply.{ZoneReply}
@@ -62,8 +61,7 @@ module _ (before : List ℕ) where
       by-test (inLimits root)
       (λ t. rw t
       (each-first Kept (λ n. outcome (Refused (OverRoot n)) before) _ (firstPast rs (rootCube root)) (λ n _. refl)
-      (each-first Kept (λ n. outcome (Refused (OverSmaller n)) before) _ (pastInTree rs (root .d) (rootCube root)) (λ n _. refl)
-      (stored-kept (builtMap rs root)))))
+      (stored-kept (builtMap rs root))))
       (λ t. rw t (λ _. refl))
 
   pub unchanged : (sheet : List ℕ) (root : Root) → (zoneBuildOf sheet root before .reply .code ≡ 0 → ⊥) → zoneBuildOf sheet root before .buffer ≡ before
@@ -96,7 +94,7 @@ module _ (sheet : List ℕ) (root : Root) (before : List ℕ) where
   pub builds : DoneWhere (CanBuild sheet root before) (zoneBuildOf sheet root before .reply) (length (builtMap rs root))
   unfolding zoneBuildOf buildOf overRootOf storedOf
   builds = record {
-    done = λ f. rw (good-check sheet (f .good), limits-within root (f .limits), keep-none rs (rootCube root) (f .bounded), f .bounded-below, le-ltb (length before) (length (builtMap rs root)) (f .room));
+    done = λ f. rw (good-check sheet (f .good), limits-within root (f .limits), keep-none rs (rootCube root) (f .bounded), le-ltb (length before) (length (builtMap rs root)) (f .room));
     only = λ e.
         let t = made sheet root before e in
         let m = t .1 in
@@ -104,7 +102,6 @@ module _ (sheet : List ℕ) (root : Root) (before : List ℕ) where
           good = check-good sheet (t .0 .0) (t .0 .1);
           limits = within-limits root (m .within);
           bounded = none-keep rs (rootCube root) (m .none);
-          bounded-below = m .below;
           room = omega (arith, m .size, m .room);
         };
   }
@@ -114,6 +111,5 @@ module _ (sheet : List ℕ) (root : Root) (before : List ℕ) where
   build-rows good = record {
     row-6 = λ out. rw (good-check sheet good, out-of-limits root out);
     row-7 = λ within n past. rw (good-check sheet good, limits-within root within, past);
-    row-11 = λ within bounded n rest past. rw (good-check sheet good, limits-within root within, keep-none rs (rootCube root) bounded, past);
-    row-8 = λ within bounded below short. rw (good-check sheet good, limits-within root within, keep-none rs (rootCube root) bounded, below, lt-ltb _ _ short);
+    row-8 = λ within bounded short. rw (good-check sheet good, limits-within root within, keep-none rs (rootCube root) bounded, lt-ltb _ _ short);
   }

@@ -5,10 +5,13 @@ use mathlib.Core.Bool.{Bool, cond, not}
 use mathlib.Core.List.{List}
 use Prim.Native.Nat.{ℕ, _+_, _*_, _<_}
 use lib.ListN.{length, drop}
+use Rattle.interval.specs.Claims.{Inside}
+use Rattle.sheet.specs.declared.Record.{Record}
 use Rattle.sheet.specs.Records.{recordsOf}
 use Rattle.cube.specs.declared.Root.{Root}
+use Rattle.cube.specs.declared.Cube.{Cube}
 use Rattle.cube.specs.declared.Point.{Point}
-use Rattle.cube.specs.Points.{InRoot}
+use Rattle.cube.specs.Points.{InRoot, CubeInside}
 use Rattle.meaning.specs.Fractions.{FractionalPoint, whole, InClosedRoot}
 use Rattle.meaning.specs.Truth.{holdsAt, inSolid}
 use Rattle.zonemap.specs.Opening.{rootOf, leavesOf, anyFace}
@@ -17,9 +20,10 @@ use Rattle.tree.specs.Solid.{leafOf}
 use Rattle.building.specs.Build.{builtMap}
 use Rattle.zone.specs.declared.ZoneReply.{ZoneReply}
 use Rattle.zone.specs.Replies.{reply, zoneCheckOf, ZoneOutcome, zoneOutcome, zoneBuildOf, zoneOpenOf, zoneLookupOf}
-use Rattle.demands.specs.Terms.{ExactlyOne, DoneWhere, Built, Holds, Touches, GoodSheet, Opens, CanBuild, CanLookUp, Truthful, NoTouch}
+use Rattle.demands.specs.Terms.{ExactlyOne, DoneWhere, Never, Built, Holds, Touches, GoodSheet, Opens, boundsOver, KeepsLimit, CanBuild, CanLookUp, Truthful, NoTouch}
 use Rattle.demands.specs.Table.{Table}
 use Rattle.demands.specs.Rows.{AllHold, elevenRows}
+use Rattle.demands.specs.Row11.{buildWithRow11}
 
 -- 1. Every sheet, root cube, depth, map and position gets an answer. A bad one gets the refusal in document 01, in its stated order, without any check by the
 -- caller, and the map buffer is then unchanged.
@@ -84,9 +88,22 @@ pub record Demand3 : Type 0 where
   pub truth : (sheet map : List ℕ) → Truthful sheet map → (p : Point) (inside : Bool) → zoneLookupOf sheet map p ≡ reply 0 (cond inside 1 0)
       → inSolid (recordsOf sheet) (whole p) ≡ inside
 
--- the three demands, and the eleven rows marked P
+-- Request 2026-11: reply 11, for a record's bounds over a smaller cube, is dropped, and that changed no outcome.
+pub record Reply11 : Type 0 where
+  -- over a cube inside another, each record's bounds lie in its bounds over the other
+  pub inside : (rs : List Record) (inner outer : Cube) → CubeInside inner outer → (i : ℕ) → Inside (boundsOver rs inner i) (boundsOver rs outer i)
+  -- so if every record keeps the limit over a cube, every record keeps it over each cube inside it, whatever tree that belongs to
+  pub keeps : (rs : List Record) (inner outer : Cube) → CubeInside inner outer → KeepsLimit rs outer → KeepsLimit rs inner
+  -- for every input zone_build has the outcome of document 01's table as it was, with row 11 tested at each cube of the tree: the reply, and every byte
+  pub same : (sheet : List ℕ) (root : Root) (before : List ℕ) → zoneBuildOf sheet root before ≡ buildWithRow11 sheet root before
+  -- and no call returns 11
+  pub never : (sheet map before : List ℕ) (root : Root) (p : Point)
+      → Never 11 (zoneCheckOf sheet) × Never 11 (zoneBuildOf sheet root before .reply) × Never 11 (zoneOpenOf map) × Never 11 (zoneLookupOf sheet map p)
+
+-- the three demands, the eleven rows marked P, and what the requests ask for
 pub record Demands : Type 0 where
   pub first : Demand1
   pub second : Demand2
   pub third : Demand3
   pub rows : AllHold elevenRows
+  pub reply-11 : Reply11

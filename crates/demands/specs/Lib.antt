@@ -1,5 +1,6 @@
 pub mod Terms
 pub mod Table
 pub mod Rows
+pub mod Row11
 pub mod Demands
 pub mod Contract

@@ -18,7 +18,6 @@ use Rattle.cube.specs.Points.{InRoot}
 use Rattle.colour.specs.Entries.{firstPast}
 use Rattle.zonemap.specs.Opening.{lengthGood, rootOf, leavesOf, faultOf, anyFace}
 use Rattle.zonemap.specs.Leaves.{nthPlace}
-use Rattle.tree.specs.Solid.{pastInTree}
 use Rattle.building.specs.Build.{builtMap}
 use Rattle.zone.specs.Replies.{reply, zoneCheckOf, zoneBuildOf, zoneOpenOf, zoneLookupOf}
 use Rattle.demands.specs.Terms.{GoodSheet, GoodLeaf, Opens, KeepsLimit}
@@ -44,12 +43,9 @@ pub record BuildRows (sheet : List ℕ) (good : GoodSheet sheet) (root : Root) (
   pub row-6 : (WithinLimits root → ⊥) → zoneBuildOf sheet root before .reply ≡ reply 6 0
   -- a record's bounds over the root pass 2^60: the first such record
   pub row-7 : WithinLimits root → (n : ℕ) → firstPast (recordsOf sheet) (rootCube root) ≡ n ∷ [] → zoneBuildOf sheet root before .reply ≡ reply 7 n
-  -- a record's bounds over a smaller cube pass 2^60: the first such record of the first such cube, a cube before its children
-  pub row-11 : WithinLimits root → KeepsLimit (recordsOf sheet) (rootCube root) → (n : ℕ) (rest : List ℕ) → pastInTree (recordsOf sheet) (root .d) (rootCube root) ≡ n ∷ rest
-      → zoneBuildOf sheet root before .reply ≡ reply 11 n
   -- lent buffer shorter than the map: bytes needed
-  pub row-8 : WithinLimits root → KeepsLimit (recordsOf sheet) (rootCube root) → pastInTree (recordsOf sheet) (root .d) (rootCube root) ≡ []
-      → length before < length (builtMap (recordsOf sheet) root) → zoneBuildOf sheet root before .reply ≡ reply 8 (length (builtMap (recordsOf sheet) root))
+  pub row-8 : WithinLimits root → KeepsLimit (recordsOf sheet) (rootCube root) → length before < length (builtMap (recordsOf sheet) root)
+      → zoneBuildOf sheet root before .reply ≡ reply 8 (length (builtMap (recordsOf sheet) root))
 
 -- for a good sheet, zone_lookup
 pub record LookupRows (sheet : List ℕ) (good : GoodSheet sheet) (map : List ℕ) (p : Point) : Type 0 where

@@ -2,10 +2,11 @@
 -- replies refuses, and a map that is truthful to a sheet.
 use mathlib.Core.Path.{_≡_}
 use mathlib.Core.Bool.{Bool, true, false, not}
-use mathlib.Core.List.{List, []}
+use mathlib.Core.List.{List}
 use Prim.Native.Nat.{ℕ, _+_, _-_, _*_, _%_, _^_, _≤_, _<_}
 use lib.ListN.{length, getD, take}
 use Rattle.bigendian.specs.Numbers.{unsignedAt}
+use Rattle.interval.specs.declared.Interval.{Interval}
 use Rattle.interval.specs.Limit.{SmallEnds}
 use Rattle.sheet.specs.declared.Record.{Record}
 use Rattle.sheet.specs.declared.Record.the-variants.{X}
@@ -25,7 +26,6 @@ use Rattle.colour.specs.Entries.{blank, entries}
 use Rattle.zonemap.specs.declared.Leaf.{Leaf}
 use Rattle.zonemap.specs.Opening.{rootOf, leavesOf}
 use Rattle.zonemap.specs.Leaves.{nthLeaf, nthPlace, nthCube}
-use Rattle.tree.specs.Solid.{pastInTree}
 use Rattle.building.specs.Build.{builtMap}
 use Rattle.zone.specs.declared.ZoneReply.{ZoneReply}
 use Rattle.zone.specs.Replies.{reply, zoneOutcome, zoneBuildOf}
@@ -40,6 +40,10 @@ pub record ExactlyOne {A : Type 0} (Fits : A → Type 0) : Type 0 where
 pub record DoneWhere (Fine : Type 0) (r : ZoneReply) (number : ℕ) : Type 0 where
   pub done : Fine → r ≡ reply 0 number
   pub only : r .code ≡ 0 → Fine
+
+-- a reply does not have this code
+abbrev pub Never : ℕ → ZoneReply → Type 0
+Never code r = r .code ≡ code → ⊥
 
 -- a map built from a sheet: for some root and some buffer zone_build returned code 0 with a size, and the map is the buffer's first `size` bytes afterwards
 pub record Built (sheet map : List ℕ) : Type 0 where
@@ -97,16 +101,19 @@ pub record Opens (named : ℕ → Bool) (map : List ℕ) : Type 0 where
   pub good : (i : ℕ) → i < length (leavesOf map) → GoodLeaf named map i
   pub whole : nthPlace map (length (leavesOf map)) ≡ 8 ^ rootOf map .d
 
--- rows 7 and 11: each record's bounds over a cube lie in -2^60 to 2^60
+-- the bounds of record i over a cube
+abbrev pub boundsOver : List Record → Cube → ℕ → Interval
+boundsOver rs q i = getD (entries q rs) i blank .bounds
+
+-- row 7: each record's bounds over a cube lie in -2^60 to 2^60
 abbrev pub KeepsLimit : List Record → Cube → Type 0
-KeepsLimit rs q = (i : ℕ) → SmallEnds (getD (entries q rs) i blank .bounds)
+KeepsLimit rs q = (i : ℕ) → SmallEnds (boundsOver rs q i)
 
 -- ---- the inputs that no row refuses
 pub record CanBuild (sheet : List ℕ) (root : Root) (before : List ℕ) : Type 0 where
   pub good : GoodSheet sheet
   pub limits : WithinLimits root
   pub bounded : KeepsLimit (recordsOf sheet) (rootCube root)
-  pub bounded-below : pastInTree (recordsOf sheet) (root .d) (rootCube root) ≡ []
   pub room : length (builtMap (recordsOf sheet) root) ≤ length before
 
 pub record CanLookUp (sheet map : List ℕ) (p : Point) : Type 0 where

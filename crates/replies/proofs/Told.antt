@@ -1,26 +1,34 @@
--- What a reply says: no refusal has code 0, and a reply that is not a refusal is done.
-use mathlib.Core.Path.{_≡_, refl}
+-- What a reply says: no refusal has code 0 or the code that was dropped, and a reply that is not a refusal is done.
+use mathlib.Core.Path.{_≡_, refl, sym, _∙_}
+use mathlib.Core.Bool.{Bool, true, false, not, _||_, true≢false}
 use mathlib.Core.List.{[]}
 use Prim.Native.Nat.{ℕ}
 use native.Mathlib.Omega.{arith}
+use lib.Dec.{eqb}
 use Rattle.replies.specs.declared.Refusal.{Refusal}
-use Rattle.replies.specs.declared.Refusal.the-variants.{Length, Version, Record, Operand, Solid, Limits, Map, OverRoot, OverSmaller, Short, NotInRoot}
+use Rattle.replies.specs.declared.Refusal.the-variants.{Length, Version, Record, Operand, Solid, Limits, Map, OverRoot, Short, NotInRoot}
 use Rattle.replies.specs.declared.Reply.{Reply}
 use Rattle.replies.specs.declared.Reply.the-variants.{Done, Refused}
 use Rattle.replies.specs.Table.{codeOf, refusalOf}
 
-pub no-code-0 : (why : Refusal) → codeOf why ≡ 0 → ⊥
-no-code-0 Length e = omega arith
-no-code-0 Version e = omega arith
-no-code-0 (Record at) e = omega arith
-no-code-0 (Operand n) e = omega arith
-no-code-0 (Solid n) e = omega arith
-no-code-0 Limits e = omega arith
-no-code-0 (Map at) e = omega arith
-no-code-0 (OverRoot n) e = omega arith
-no-code-0 (OverSmaller n) e = omega arith
-no-code-0 (Short n) e = omega arith
-no-code-0 NotInRoot e = omega arith
+-- 0 says that nothing is wrong, and 11 was dropped by request 2026-11
+abbrev mayRefuse : ℕ → Bool
+mayRefuse code = not (eqb code 0 || eqb code 11)
+
+refusal-may : (why : Refusal) → mayRefuse (codeOf why) ≡ true
+refusal-may Length = refl
+refusal-may Version = refl
+refusal-may (Record at) = refl
+refusal-may (Operand n) = refl
+refusal-may (Solid n) = refl
+refusal-may Limits = refl
+refusal-may (Map at) = refl
+refusal-may (OverRoot n) = refl
+refusal-may (Short n) = refl
+refusal-may NotInRoot = refl
+
+pub no-code : (code : ℕ) → mayRefuse code ≡ false → (why : Refusal) → codeOf why ≡ code → ⊥
+no-code code h why e = true≢false (sym (rw e at (refusal-may why)) ∙ h)
 
 pub not-refused : (r : Reply) → refusalOf r ≡ [] → (n : ℕ) × (r ≡ Done n)
 not-refused (Done n) e = (n, refl)

@@ -2,7 +2,7 @@
 use Prim.Native.Nat.{ℕ}
 use mathlib.Core.List.{List, [], _∷_}
 use Rattle.replies.specs.declared.Refusal.{Refusal}
-use Rattle.replies.specs.declared.Refusal.the-variants.{Length, Version, Record, Operand, Solid, Limits, Map, OverRoot, OverSmaller, Short, NotInRoot}
+use Rattle.replies.specs.declared.Refusal.the-variants.{Length, Version, Record, Operand, Solid, Limits, Map, OverRoot, Short, NotInRoot}
 use Rattle.replies.specs.declared.Reply.{Reply}
 use Rattle.replies.specs.declared.Reply.the-variants.{Done, Refused}
 
@@ -15,7 +15,6 @@ codeOf (Solid n) = 5
 codeOf Limits = 6
 codeOf (Map at) = 9
 codeOf (OverRoot n) = 7
-codeOf (OverSmaller n) = 11
 codeOf (Short n) = 8
 codeOf NotInRoot = 10
 
@@ -28,7 +27,6 @@ numberOf (Solid n) = n
 numberOf Limits = 0
 numberOf (Map at) = at
 numberOf (OverRoot n) = n
-numberOf (OverSmaller n) = n
 numberOf (Short n) = n
 numberOf NotInRoot = 0
 

@@ -3,7 +3,7 @@
 ghost use mathlib.Core.Path.{_≡_};
 ghost use Rattle.replies.specs.Table.{codeOf, numberOf};
 
-// Why a call refuses, in the order of test.
+// Why a call refuses, in the order of test. Code 11 was dropped, and no refusal may take it.
 pub enum Refusal {
     Length,
     Version,
@@ -13,7 +13,6 @@ pub enum Refusal {
     Limits,
     Map(usize),
     OverRoot(usize),
-    OverSmaller(usize),
     Short(usize),
     NotInRoot,
 }
@@ -37,7 +36,6 @@ impl Refusal {
             Refusal::Limits => 6,
             Refusal::Map(_) => 9,
             Refusal::OverRoot(_) => 7,
-            Refusal::OverSmaller(_) => 11,
             Refusal::Short(_) => 8,
             Refusal::NotInRoot => 10,
         }
@@ -55,7 +53,6 @@ impl Refusal {
             Refusal::Limits => 0,
             Refusal::Map(at) => at,
             Refusal::OverRoot(n) => n,
-            Refusal::OverSmaller(n) => n,
             Refusal::Short(n) => n,
             Refusal::NotInRoot => 0,
         }

@@ -1,15 +1,13 @@
 -- What a cube and its children contribute; and if no record passes the limit over a cube, none does over a smaller one.
 use mathlib.Core.Path.{_≡_, refl, sym, ap, _∙_}
 use mathlib.Core.Bool.{true, false, not}
-use mathlib.Core.List.{List, [], _∷_, _++_}
-use Prim.Native.Nat.{ℕ, zero, suc, _+_, _-_, _^_, _≤_, _<_}
+use mathlib.Core.List.{List, [], _∷_}
+use Prim.Native.Nat.{ℕ, _+_, _-_, _^_, _≤_, _<_}
 use native.Mathlib.Nat.{zero-lt-suc, le-trans, pow-le-pow-right}
-use native.Mathlib.Numerals.{sub-one}
 use native.Mathlib.Omega.{arith}
 use borrow.Author.Tests.{not-true, not-false, eqb-true, eqb-false, ne-eqb}
 use lib.Dec.{eqb}
 use lib.ListN.{length, getD}
-use Rattle.integers.proofs.Order.{by-test}
 use Rattle.sheet.specs.declared.Record.{Record}
 use Rattle.cube.specs.declared.Cube.{Cube}
 use Rattle.cube.specs.Limits.{Near}
@@ -24,8 +22,8 @@ use Rattle.colour.specs.States.{classOf}
 use Rattle.colour.proofs.Told.{known-is, past-first}
 use Rattle.colour.proofs.Smaller.{none-smaller}
 use Rattle.tree.specs.Visit.{upto}
-use Rattle.tree.specs.Solid.{solidState, isGray, leafOf, leavesBelow, pastInTree}
-use Rattle.tree.proofs.Visits.{kid, upto-nothing, visit-end, visit-flat, visit-gray, visit-most}
+use Rattle.tree.specs.Solid.{solidState, isGray, leafOf, leavesBelow}
+use Rattle.tree.proofs.Visits.{kid, visit-end, visit-flat, visit-gray, visit-most}
 
 -- a cube that is split
 pub record Split (rs : List Record) (left : ℕ) (q : Cube) : Type 0 where
@@ -33,66 +31,37 @@ pub record Split (rs : List Record) (left : ℕ) (q : Cube) : Type 0 where
   pub gray : isGray rs q ≡ true
 
 module _ (rs : List Record) where
-  -- the leaves of child k, and the records past the limit there
+  -- the leaves of child k
   abbrev pub kidLeaves : ℕ → Cube → ℕ → List Leaf
-  kidLeaves = kid (isGray rs) (λ q. []) (λ q. leafOf rs q ∷ [])
-
-  abbrev pub kidPasts : ℕ → Cube → ℕ → List ℕ
-  kidPasts = kid (isGray rs) (firstPast rs) (firstPast rs)
+  kidLeaves = kid (isGray rs) (λ q. leafOf rs q ∷ [])
 
   module _ (left : ℕ) (q : Cube) where
     pub kid-leaves : (k : ℕ) → kidLeaves left q k ≡ leavesBelow rs (left - 1) (childOf q k)
     unfolding leavesBelow
     kid-leaves k = refl
 
-    pub kid-pasts : (k : ℕ) → kidPasts left q k ≡ pastInTree rs (left - 1) (childOf q k)
-    unfolding pastInTree
-    kid-pasts k = refl
-
     -- a cube that is split
     module _ (l : 0 < left) (g : isGray rs q ≡ true) where
       pub leaves-split : leavesBelow rs left q ≡ upto (kidLeaves left q) 8
       unfolding leavesBelow
-      leaves-split = visit-gray (isGray rs) (λ q. []) (λ q. leafOf rs q ∷ []) left q l g
-
-      pub pasts-split : pastInTree rs left q ≡ firstPast rs q ++ upto (kidPasts left q) 8
-      unfolding pastInTree
-      pasts-split = visit-gray (isGray rs) (firstPast rs) (firstPast rs) left q l g
+      leaves-split = visit-gray (isGray rs) (λ q. leafOf rs q ∷ []) left q l g
 
     -- a cube that is not split
     pub leaves-end : left ≡ 0 → leavesBelow rs left q ≡ leafOf rs q ∷ []
     unfolding leavesBelow
-    leaves-end e = visit-end (isGray rs) (λ q. []) (λ q. leafOf rs q ∷ []) left q e
+    leaves-end e = visit-end (isGray rs) (λ q. leafOf rs q ∷ []) left q e
 
     pub leaves-flat : isGray rs q ≡ false → leavesBelow rs left q ≡ leafOf rs q ∷ []
     unfolding leavesBelow
-    leaves-flat e = visit-flat (isGray rs) (λ q. []) (λ q. leafOf rs q ∷ []) left q e
-
-    pub pasts-end : left ≡ 0 → pastInTree rs left q ≡ firstPast rs q
-    unfolding pastInTree
-    pasts-end e = visit-end (isGray rs) (firstPast rs) (firstPast rs) left q e
-
-    pub pasts-flat : isGray rs q ≡ false → pastInTree rs left q ≡ firstPast rs q
-    unfolding pastInTree
-    pasts-flat e = visit-flat (isGray rs) (firstPast rs) (firstPast rs) left q e
+    leaves-flat e = visit-flat (isGray rs) (λ q. leafOf rs q ∷ []) left q e
 
     pub leaves-few : left ≤ 10 → length (leavesBelow rs left q) ≤ 2 ^ 30
     unfolding leavesBelow
-    leaves-few h = le-trans (visit-most (isGray rs) (λ q. []) (λ q. leafOf rs q ∷ []) (λ q. refl) (λ q. refl) left q) (pow-le-pow-right (zero-lt-suc 7) h)
+    leaves-few h = le-trans (visit-most (isGray rs) (λ q. leafOf rs q ∷ []) (λ q. refl) left q) (pow-le-pow-right (zero-lt-suc 7) h)
 
   -- ---- the limit
   pub child-none : (q : Cube) → firstPast rs q ≡ [] → (k : ℕ) → firstPast rs (childOf q k) ≡ []
   child-none q none k = none-smaller (childOf q k) q (child-inside q k) rs none
-
-  -- so reply 11 is never given
-  pub none-below : (left : ℕ) (q : Cube) → firstPast rs q ≡ [] → pastInTree rs left q ≡ []
-  none-below zero q none = pasts-end zero q refl ∙ none
-  none-below (suc left) q none =
-      by-test (isGray rs q)
-      (λ t.
-      let kids : (k : ℕ) → kidPasts (suc left) q k ≡ [] = λ k. kid-pasts (suc left) q k ∙ rw (sub-one (suc left)) (none-below left (childOf q k) (child-none q none k)) in
-      pasts-split (suc left) q (omega arith) t ∙ rw (none, upto-nothing (kidPasts (suc left) q) kids 8))
-      (λ t. pasts-flat (suc left) q t ∙ none)
 
   -- ---- a cube that was judged, over which no record passes the limit
   module _ (q : Cube) (solid : ℕ) (last : solid + 1 ≡ length rs) (j : Judged) (e : j ≡ judgedOf rs q solid) where

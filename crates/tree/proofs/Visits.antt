@@ -49,31 +49,31 @@ cond-most : {A : Type 0} (b : Bool) (xs ys : List A) (m : ℕ) → length xs ≤
 cond-most true xs ys m h k = h
 cond-most false xs ys m h k = k
 
-module _ {A : Type 0} (isGray : Cube → Bool) (split leaf : Cube → List A) where
+module _ {A : Type 0} (isGray : Cube → Bool) (leaf : Cube → List A) where
   -- what child k contributes, where the cube itself has `left` levels left
   abbrev pub kid : ℕ → Cube → ℕ → List A
-  kid left q k = visit isGray split leaf (left - 1) (childOf q k)
+  kid left q k = visit isGray leaf (left - 1) (childOf q k)
 
-  pub visit-end : (left : ℕ) (q : Cube) → left ≡ 0 → visit isGray split leaf left q ≡ leaf q
+  pub visit-end : (left : ℕ) (q : Cube) → left ≡ 0 → visit isGray leaf left q ≡ leaf q
   unfolding visit
   visit-end left q e = rw e
 
-  pub visit-flat : (left : ℕ) (q : Cube) → isGray q ≡ false → visit isGray split leaf left q ≡ leaf q
+  pub visit-flat : (left : ℕ) (q : Cube) → isGray q ≡ false → visit isGray leaf left q ≡ leaf q
   unfolding visit
   visit-flat zero q e = refl
   visit-flat (suc left) q e = rw e
 
-  pub visit-gray : (left : ℕ) (q : Cube) → 0 < left → isGray q ≡ true → visit isGray split leaf left q ≡ split q ++ upto (kid left q) 8
+  pub visit-gray : (left : ℕ) (q : Cube) → 0 < left → isGray q ≡ true → visit isGray leaf left q ≡ upto (kid left q) 8
   unfolding visit upto
   visit-gray zero q h e = let z : ⊥ = omega arith in absurd z
   visit-gray (suc left) q h e = rw (e, sub-one (suc left))
 
-  -- at most 8^left elements, if a split cube contributes none and a leaf one
-  pub visit-most : ((q : Cube) → length (split q) ≡ 0) → ((q : Cube) → length (leaf q) ≡ 1) → (left : ℕ) (q : Cube) → length (visit isGray split leaf left q) ≤ 8 ^ left
+  -- at most 8^left elements, if a leaf contributes one
+  pub visit-most : ((q : Cube) → length (leaf q) ≡ 1) → (left : ℕ) (q : Cube) → length (visit isGray leaf left q) ≤ 8 ^ left
   unfolding visit
-  visit-most s l zero q = omega (arith, l q)
-  visit-most s l (suc left) q =
-      let f : ℕ → List A = λ k. visit isGray split leaf left (childOf q k) in
-      cond-most (isGray q) (split q ++ upto f 8) (leaf q) (8 ^ suc left)
-      (omega (arith, length-append (split q) (upto f 8), s q, upto-bound f (8 ^ left) 8 (λ k. visit-most s l left (childOf q k))))
+  visit-most l zero q = omega (arith, l q)
+  visit-most l (suc left) q =
+      let f : ℕ → List A = λ k. visit isGray leaf left (childOf q k) in
+      cond-most (isGray q) (upto f 8) (leaf q) (8 ^ suc left)
+      (omega (arith, upto-bound f (8 ^ left) 8 (λ k. visit-most l left (childOf q k))))
       (omega (arith, l q, one-le-pow (suc left) 8 (zero-lt-suc 7)))

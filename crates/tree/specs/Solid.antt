@@ -1,4 +1,4 @@
--- The solid of a sheet over a tree of cubes: its leaves, and the records whose bounds pass the limit.
+-- The solid of a sheet over a tree of cubes: its state over each, and the leaves.
 use Prim.Native.Nat.{ℕ, _-_}
 use mathlib.Core.Bool.{Bool}
 use mathlib.Core.List.{List, [], _∷_}
@@ -8,7 +8,7 @@ use Rattle.sheet.specs.declared.Record.{Record}
 use Rattle.cube.specs.declared.Cube.{Cube}
 use Rattle.colour.specs.declared.State.{State}
 use Rattle.colour.specs.States.{classOf, faceOf}
-use Rattle.colour.specs.Entries.{blank, entries, firstPast}
+use Rattle.colour.specs.Entries.{blank, entries}
 use Rattle.zonemap.specs.declared.Leaf.{Leaf}
 use Rattle.tree.specs.Visit.{visit}
 
@@ -29,8 +29,4 @@ leafOf rs q = leafBy (q .level) (solidState rs q)
 
 -- the leaves below a cube with n levels left
 unfoldable pub leavesBelow : List Record → ℕ → Cube → List Leaf
-leavesBelow rs = visit (isGray rs) (λ q. []) (λ q. leafOf rs q ∷ [])
-
--- the first record whose bounds pass 2^60, of each cube that has one, a cube before its children
-unfoldable pub pastInTree : List Record → ℕ → Cube → List ℕ
-pastInTree rs = visit (isGray rs) (firstPast rs) (firstPast rs)
+leavesBelow rs = visit (isGray rs) (λ q. leafOf rs q ∷ [])

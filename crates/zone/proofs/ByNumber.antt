@@ -9,7 +9,7 @@ use Rattle.replies.specs.declared.Refusal.{Refusal}
 use Rattle.replies.specs.declared.Reply.{Reply}
 use Rattle.replies.specs.declared.Reply.the-variants.{Done, Refused}
 use Rattle.replies.specs.Table.{codeOf, numberOf}
-use Rattle.replies.proofs.Told.{no-code-0}
+use Rattle.replies.proofs.Told.{no-code}
 use Rattle.sheet.specs.Check.{checkOf}
 use Rattle.cube.proofs.Passed.{passedPoint, passedRoot, same-point, same-root}
 use Rattle.zonemap.specs.Opening.{openOf}
@@ -30,7 +30,7 @@ module _ (r : Reply) where
 -- code 0 is that of `Done` alone
 pub done-code : (r : Reply) → byNumber r .code ≡ 0 → r ≡ Done (byNumber r .number)
 done-code (Done n) e = refl
-done-code (Refused why) e = absurd (no-code-0 why e)
+done-code (Refused why) e = absurd (no-code 0 refl why e)
 
 -- ---- each call: r is what the inner call returned, and `told` is r by number
 module _ (r : Reply) (told : ZoneReply) (t : told ≡ byNumber r) where

@@ -1,7 +1,7 @@
 -- `building::building::over_root` meets its contract: the limits of the root, then the limit of the bounds over it.
 use Rattle.cube.proofs.Cubes.{root-small, near-once}
 use Rattle.colour.proofs.Told.{known-none}
-use Rattle.building.proofs.Outcomes.{outside, within, over-root, no-smaller}
+use Rattle.building.proofs.Outcomes.{outside, within, over-root, under-limit}
 use borrow.Author.Needs.{needs}
 use Rattle.building.proofs.building.over_root.Statement.{statement}
 use Rattle.building.proofs.building.over_root.Tie as tie
@@ -43,7 +43,7 @@ same-length : tie.Need-same-length
 same-length c = search needs
 
 returns-2 : tie.Need-returns-2
-returns-2 c = search (needs, within, no-smaller)
+returns-2 c = search (needs, within, under-limit)
 
 enum-known-n : tie.Need-enum-known-n
 enum-known-n c = search needs

@@ -1,0 +1,41 @@
+-- Row 11 of document 01's table, which request 2026-11 dropped: "a record's bounds over a smaller cube pass 2^60", with "the first such record of the first such
+-- cube, a cube before its children". Only the promise that dropping it changed nothing cites this.
+use mathlib.Core.Bool.{cond, not}
+use mathlib.Core.List.{List, [], _++_}
+use Prim.Native.Nat.{ℕ, zero, suc}
+use lib.Dec.{eqb, ltb}
+use lib.ListN.{length, drop}
+use Rattle.integers.specs.First.{onFirst}
+use Rattle.sheet.specs.declared.Record.{Record}
+use Rattle.sheet.specs.Records.{recordsOf}
+use Rattle.cube.specs.declared.Root.{Root}
+use Rattle.cube.specs.declared.Cube.{Cube}
+use Rattle.cube.specs.Limits.{inLimits}
+use Rattle.cube.specs.Cubes.{rootCube, childOf}
+use Rattle.colour.specs.Entries.{firstPast}
+use Rattle.tree.specs.Visit.{upto}
+use Rattle.tree.specs.Solid.{isGray}
+use Rattle.building.specs.Build.{builtMap}
+use Rattle.zone.specs.Replies.{reply, zoneCheckOf, ZoneOutcome, zoneOutcome}
+
+-- of each cube of the tree, the first record whose bounds pass 2^60, if one does, a cube before its children (over the root itself none does where row 7
+-- did not refuse)
+unfoldable pub pastInTree : List Record → ℕ → Cube → List ℕ
+pastInTree rs zero q = firstPast rs q
+pastInTree rs (suc left) q = firstPast rs q ++ cond (isGray rs q) (upto (λ k. pastInTree rs left (childOf q k)) 8) []
+
+-- zone_build by the table as it was, row by row: 1 to 5, 6, 7, 11 and 8, then the map
+module _ (sheet : List ℕ) (root : Root) (before : List ℕ) where
+  abbrev refused : ℕ → ℕ → ZoneOutcome
+  refused code number = zoneOutcome (reply code number) before
+
+  unfoldable pub buildWithRow11 : ZoneOutcome
+  buildWithRow11 =
+      let rs = recordsOf sheet in
+      let map = builtMap rs root in
+      cond (not (eqb (zoneCheckOf sheet .code) 0)) (zoneOutcome (zoneCheckOf sheet) before)
+      (cond (not (inLimits root)) (refused 6 0)
+      (onFirst (firstPast rs (rootCube root)) (refused 7)
+      (onFirst (pastInTree rs (root .d) (rootCube root)) (refused 11)
+      (cond (ltb (length before) (length map)) (refused 8 (length map))
+      (zoneOutcome (reply 0 (length map)) (map ++ drop (length map) before))))))

@@ -23,7 +23,7 @@
    dropped is not used again. So treat a code that you do not know as a refusal. While the major number is 0, a new minor number may also
    change a call, or the number that comes with a code: CHANGELOG.md says what to do. */
 #define ZONE_VERSION_MAJOR 0
-#define ZONE_VERSION_MINOR 2
+#define ZONE_VERSION_MINOR 3
 #define ZONE_VERSION (ZONE_VERSION_MAJOR * 1000 + ZONE_VERSION_MINOR)
 
 #ifdef __cplusplus
@@ -52,10 +52,11 @@ enum ZoneCode {
     /* zone_build and zone_lookup. */
     ZONE_OVER_ROOT = 7, /* a record's bounds over the root pass 2^60: the record's number */
     /* zone_build. */
-    ZONE_OVER_SMALLER = 11, /* a record's bounds over a smaller cube pass 2^60, which no input brings about: the record's number */
-    ZONE_SHORT = 8,         /* the buffer is shorter than the map: the number of bytes needed */
+    ZONE_SHORT = 8, /* the buffer is shorter than the map: the number of bytes needed */
     /* zone_lookup. */
     ZONE_NOT_IN_ROOT = 10 /* the point is not in the map's root, the high planes left out: 0 */
+    /* 11 is never given. It was document 01's reply for a record whose bounds over a smaller cube pass 2^60, which no input brings about:
+       such bounds lie inside the root's. The number is not used for anything else. */
 };
 
 /* What zone_lookup returns with ZONE_DONE: where the point is. */

@@ -21,7 +21,6 @@ static const char *why(uint32_t code) {
     case ZONE_LIMITS: return "the root or the depth is out of limits";
     case ZONE_MAP: return "the map is bad at this offset";
     case ZONE_OVER_ROOT: return "the bounds of this record over the root pass 2^60";
-    case ZONE_OVER_SMALLER: return "the bounds of this record over a smaller cube pass 2^60";
     case ZONE_SHORT: return "the map needs a buffer of this many bytes";
     case ZONE_NOT_IN_ROOT: return "not in the root";
     default: return "a code of a later version";

@@ -28,9 +28,6 @@ pub enum Refusal {
     Map { offset: usize },
     /// 7, of [`build`](crate::build) and [`lookup`](crate::lookup): a record's bounds over the root pass 2^60. With the record's number.
     OverRoot { record: usize },
-    /// 11, of [`build`](crate::build): a record's bounds over a smaller cube pass 2^60, which no input brings about. With the record's
-    /// number.
-    OverSmaller { record: usize },
     /// 8, of [`build`](crate::build): the buffer is shorter than the map. With the number of bytes needed.
     Short { needed: usize },
     /// 10, of [`lookup`](crate::lookup): the point is not in the map's root, the high planes left out.
@@ -53,7 +50,6 @@ impl Refusal {
             6 => Limits,
             9 => Map { offset: n },
             7 => OverRoot { record: n },
-            11 => OverSmaller { record: n },
             8 => Short { needed: n },
             10 => NotInRoot,
             _ => Unknown { code, number },
@@ -72,7 +68,6 @@ impl Refusal {
             Limits => 6,
             Map { .. } => 9,
             OverRoot { .. } => 7,
-            OverSmaller { .. } => 11,
             Short { .. } => 8,
             NotInRoot => 10,
             Unknown { code, .. } => code,
@@ -89,7 +84,6 @@ impl Refusal {
             | Solid { records: n }
             | Map { offset: n }
             | OverRoot { record: n }
-            | OverSmaller { record: n }
             | Short { needed: n } => n as u64,
             Unknown { number, .. } => number,
         }
@@ -121,9 +115,6 @@ impl Display for Refusal {
                 "the map's leaf at byte {offset} is bad, by itself or for the sheet of a lookup, or the leaves stop short there"
             ),
             OverRoot { record } => write!(f, "the bounds of record {record} over the root pass 2^60"),
-            OverSmaller { record } => {
-                write!(f, "the bounds of record {record} over a smaller cube pass 2^60")
-            }
             Short { needed } => write!(f, "the map needs a buffer of {needed} bytes"),
             NotInRoot => write!(f, "the point is not in the map's root"),
             Unknown { code, number } => write!(f, "unknown code {code} with {number}"),
@@ -132,3 +123,17 @@ impl Display for Refusal {
 }
 
 impl std::error::Error for Refusal {}
+
+#[cfg(test)]
+mod tests {
+    use super::Refusal;
+
+    #[test]
+    fn codes_over_10_are_unknown_and_none_is_lost() {
+        for code in 1..=16 {
+            let why = Refusal::new(code, 0);
+            assert_eq!(why.code(), code);
+            assert_eq!(matches!(why, Refusal::Unknown { .. }), code > 10);
+        }
+    }
+}

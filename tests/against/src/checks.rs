@@ -8,6 +8,7 @@ use crate::every_byte;
 use crate::group::{report, Group, Setup};
 use crate::lookups::{self, POINTS};
 use crate::relations;
+use crate::row_11;
 use crate::server::{Server, TRESPASSES};
 use crate::slips::slips;
 use crate::tally::Tally;
@@ -90,10 +91,11 @@ struct Run<'a> {
 
 type Check = fn(&mut Run) -> Result<(), String>;
 
-const CHECKS: [(&str, Check); 7] = [
+const CHECKS: [(&str, Check); 8] = [
     ("guard pages", guard_pages),
     ("comparison", comparison),
     ("codes reached", codes_reached),
+    ("row 11", row_11),
     ("relations", relations),
     ("wrong rules", wrong_rules),
     ("demand 3", demand_3),
@@ -172,21 +174,44 @@ fn comparison(run: &mut Run) -> Result<(), String> {
     Ok(())
 }
 
-/// Each call gives all codes that it can, and reply 9 occurs with every sort of offset. No input reaches 11:
-/// bounds over a cube contain the bounds over each cube in it, so a record that passes 2^60 over a smaller cube
-/// passes it over the root.
+/// Each call gives all codes that it can and no other, and reply 9 occurs with every sort of offset.
 fn codes_reached(run: &mut Run) -> Result<(), String> {
     let covered = &run.covered;
     let codes = CALLS.map(|call| covered.reached(call));
-    let all: [&[usize]; CALLS.len()] = [
+    let all: [&[u32]; CALLS.len()] = [
         &[0, 1, 2, 3, 4, 5],
         &[0, 1, 2, 3, 4, 5, 6, 7, 8],
         &[0, 9],
         &[0, 1, 2, 3, 4, 5, 7, 9, 10],
     ];
     let offsets = [Call::Open, Call::Lookup].map(|call| covered.reached_all_offsets(call));
-    let what = "codes reached: every one of 0 to 10, never 11, and 9 for each sort of offset";
+    let what = "codes reached: every one of 0 to 10, no other, and 9 for each sort of offset";
     run.count(what, codes == all && offsets == [true; 2]);
+    Ok(())
+}
+
+/// The library's builds are those of document 01's table with row 11 too, and the row refuses none. A lower limit,
+/// by which it does, is noticed.
+fn row_11(run: &mut Run) -> Result<(), String> {
+    let [_, builds, _, _, damaged, _] = groups(run.sizes);
+    let [all, lower] = row_11::run(run.setup, [builds, damaged])?;
+    match lower.different {
+        Some((group, number)) => println!("    a limit of 2^60 - 1: case {number} of {group}"),
+        None => println!("NOT NOTICED: a limit of 2^60 - 1"),
+    }
+    let found = match all.different {
+        Some((group, number)) => format!("a difference in case {number} of {group}"),
+        None => "no difference".into(),
+    };
+    let what = format!(
+        "row 11: {} builds, {} smaller cubes tested, {} of them with bounds at 2^60, {} refused, {found}",
+        all.builds, all.tested.cubes, all.tested.at_limit, all.refused
+    );
+    let same = all.different.is_none() && all.refused == 0;
+    run.count(
+        &what,
+        same && lower.different.is_some() && lower.refused > 0,
+    );
     Ok(())
 }
 

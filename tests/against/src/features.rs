@@ -1,7 +1,7 @@
 //! What a case has that is worth counting.
 
 use crate::case::{Build, Lookup};
-use paper::bounds::{self, Interval};
+use paper::bounds::{self, FURTHEST as LIMIT};
 use paper::map::HEADER;
 use paper::root::{Cube, Root, FURTHEST};
 use paper::sheet::{self, Record, Sheet};
@@ -81,13 +81,13 @@ fn of_sheet(sheet: &Sheet) -> Vec<&'static str> {
 }
 
 fn of_bounds(sheet: &Sheet, root: &Root) -> Vec<&'static str> {
-    let end = bounds::FURTHEST;
-    let at_end = |of: &Interval| of.low == -end || of.high == end;
-    match bounds::over(sheet, &root.cube()) {
-        Err(_) => vec!["bounds: 2^60 passed"],
-        Ok(all) if all.iter().flatten().any(at_end) => vec!["bounds: 2^60 reached, not passed"],
-        Ok(_) => vec![],
-    }
+    let is_past = |furthest| bounds::first_past(furthest, sheet, &root.cube()).is_some();
+    let passed = is_past(LIMIT);
+    let reached = !passed && is_past(LIMIT - 1);
+    names(&[
+        ("bounds: 2^60 passed", passed),
+        ("bounds: 2^60 reached, not passed", reached),
+    ])
 }
 
 /// Features of a map's length.

@@ -74,7 +74,7 @@ impl Graph<'_> {
 
     fn add(&mut self, record: Record) {
         self.sheet.records.push(record);
-        if self.tame && bounds::over(&self.sheet, &self.root.cube()).is_err() {
+        if self.tame && bounds::within_limit(&self.sheet, &self.root).is_err() {
             self.sheet.records.pop();
         }
     }
@@ -135,9 +135,10 @@ impl Graph<'_> {
     /// A face that crosses the root: of an operand minus a constant between its bounds.
     fn add_aimed_face(&mut self) {
         let operand = self.operand(Sort::Arithmetic);
-        let Ok(all) = bounds::over(&self.sheet, &self.root.cube()) else {
+        if bounds::within_limit(&self.sheet, &self.root).is_err() {
             return;
-        };
+        }
+        let all = bounds::over(&self.sheet, &self.root.cube());
         let bounds = all[operand].expect("it is arithmetic");
         let wanted = self.random.between(bounds.low as i64, bounds.high as i64);
         let Ok(aim) = i32::try_from(wanted) else {

@@ -26,6 +26,7 @@ mod plan;
 mod random;
 mod relations;
 mod rooms;
+mod row_11;
 mod server;
 mod shrink;
 mod slips;

@@ -1,6 +1,7 @@
 //! A sheet and a root to build it over, what it is an example of, and how deep its map may be.
 
 use crate::random::Random;
+use paper::bounds;
 use paper::colour::{self, GRAY};
 use paper::root::{Cube, Root, FURTHEST};
 use paper::sheet::{Record, Sheet};
@@ -55,11 +56,12 @@ pub fn root(random: &mut Random, k: u8) -> Root {
 
 /// The greatest depth up to the wanted one whose map has at most `most_leaves` leaves, and the number of its leaves.
 pub fn deepest(sheet: &Sheet, root: &Root, wanted: u8, most_leaves: usize) -> (u8, usize) {
-    let is_gray = |cube: &Cube| colour::colour(sheet, cube).map(|colour| colour.class == GRAY);
-    let mut grays = match is_gray(&root.cube()) {
-        Err(_) => return (wanted, 0),
-        Ok(gray) => vec![root.cube(); usize::from(gray)],
-    };
+    if bounds::within_limit(sheet, root).is_err() {
+        return (wanted, 0);
+    }
+    let is_gray = |cube: &Cube| colour::colour(sheet, cube).class == GRAY;
+    let mut grays = vec![root.cube()];
+    grays.retain(is_gray);
     let mut leaves = 1;
     for depth in 0..wanted {
         let split = leaves + 7 * grays.len();
@@ -67,8 +69,11 @@ pub fn deepest(sheet: &Sheet, root: &Root, wanted: u8, most_leaves: usize) -> (u
             return (depth, leaves);
         }
         leaves = split;
-        let children = grays.iter().flat_map(Cube::children);
-        grays = children.filter(|cube| is_gray(cube) == Ok(true)).collect();
+        grays = grays
+            .iter()
+            .flat_map(Cube::children)
+            .filter(is_gray)
+            .collect();
     }
     (wanted, leaves)
 }

@@ -34,19 +34,13 @@ const OF_BUILDING: [(&str, Make, Wrong); 15] = [
     ("[-2, 0] is undecided", BUILDING, |c| {
         coloured(c, &zero_undecided)
     }),
-    ("a square as a product", BUILDING, |c| {
-        coloured(c, &square_as_product)
-    }),
+    ("a square as a product", BUILDING, square_as_product),
     ("all faces of the sheet counted", BUILDING, |c| {
         coloured(c, &all_faces)
     }),
-    ("2^60 itself refused", BUILDING, |c| {
-        coloured(c, &limit_refused)
-    }),
-    ("sum and product exchanged", BUILDING, |c| {
-        coloured(c, &kinds_exchanged)
-    }),
-    ("z reads y", BUILDING, |c| coloured(c, &z_reads_y)),
+    ("2^60 itself refused", BUILDING, limit_refused),
+    ("sum and product exchanged", BUILDING, kinds_exchanged),
+    ("z reads y", BUILDING, z_reads_y),
     ("either never passes a state on", BUILDING, |c| {
         coloured(c, &either_not_passed_on)
     }),

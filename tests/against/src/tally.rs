@@ -6,21 +6,18 @@ use crate::features;
 use paper::Reply;
 use std::collections::BTreeMap;
 
-/// Codes 0 to 11.
-pub const CODES: usize = 12;
-
 /// The sorts of offset in reply 9: length, version, root or depth, a leaf, leaves that stop short.
 const OFFSETS: usize = 5;
 
-type Counted = BTreeMap<&'static str, u64>;
+type Counted<K> = BTreeMap<K, u64>;
 
 #[derive(Default)]
 pub struct Tally {
     /// Labels of the cases, and their features.
-    labels: Counted,
-    features: Counted,
-    /// By call, and then by code.
-    codes: [[u64; CODES]; CALLS.len()],
+    labels: Counted<&'static str>,
+    features: Counted<&'static str>,
+    /// By call, and then by code, whether the table has it or not.
+    codes: [Counted<u32>; CALLS.len()],
     /// By call, and then by the sort of offset in reply 9.
     offsets: [[u64; OFFSETS]; CALLS.len()],
     /// Of lookups that were answered: outside, inside, undecided.
@@ -56,7 +53,7 @@ impl Tally {
 
     fn count_reply(&mut self, case: &Case, reply: Reply) {
         let call = case.call() as usize;
-        self.codes[call][reply.code as usize] += 1;
+        *self.codes[call].entry(reply.code).or_default() += 1;
         if let (9, Some(map)) = (reply.code, case.map()) {
             let sort = match reply.number {
                 0 => 0,
@@ -97,7 +94,7 @@ impl Tally {
         add_counted(&mut self.features, &other.features);
         for call in CALLS {
             let call = call as usize;
-            add_each(&mut self.codes[call], &other.codes[call]);
+            add_counted(&mut self.codes[call], &other.codes[call]);
             add_each(&mut self.offsets[call], &other.offsets[call]);
         }
         add_each(&mut self.answers, &other.answers);
@@ -108,9 +105,8 @@ impl Tally {
     }
 
     /// The codes that a call gave.
-    pub fn reached(&self, call: Call) -> Vec<usize> {
-        let counts = self.codes[call as usize];
-        (0..CODES).filter(|&code| counts[code] > 0).collect()
+    pub fn reached(&self, call: Call) -> Vec<u32> {
+        self.codes[call as usize].keys().copied().collect()
     }
 
     /// Whether a call gave reply 9 with every sort of offset.
@@ -120,7 +116,7 @@ impl Tally {
 
     /// The number of calls, as in '20 builds, 3 lookups'.
     pub fn calls(&self) -> String {
-        let counted = CALLS.map(|call| (self.codes[call as usize].iter().sum::<u64>(), call));
+        let counted = CALLS.map(|call| (self.codes[call as usize].values().sum::<u64>(), call));
         let made = counted.iter().filter(|(count, _)| *count > 0);
         let texts: Vec<String> = made
             .map(|(count, call)| format!("{count} {}", call.name()))
@@ -140,8 +136,11 @@ impl Tally {
     pub fn print_outcomes(&self) {
         println!("  outcomes of the calls:");
         for call in CALLS {
-            let codes = list(&self.codes[call as usize]);
-            println!("    {} by code, 0 to 11: {codes}", call.name());
+            let codes = self.codes[call as usize].iter();
+            let texts: Vec<String> = codes
+                .map(|(code, count)| format!("{code}: {count}"))
+                .collect();
+            println!("    {} by code: {}", call.name(), texts.join(", "));
         }
         for call in [Call::Open, Call::Lookup] {
             let (name, offsets) = (call.name(), list(&self.offsets[call as usize]));
@@ -155,13 +154,13 @@ impl Tally {
     }
 }
 
-fn add_counted(to: &mut Counted, from: &Counted) {
-    for (name, count) in from {
-        *to.entry(name).or_default() += count;
+fn add_counted<K: Copy + Ord>(to: &mut Counted<K>, from: &Counted<K>) {
+    for (&key, count) in from {
+        *to.entry(key).or_default() += count;
     }
 }
 
-fn print_counted(counted: &Counted) {
+fn print_counted(counted: &Counted<&str>) {
     for (name, count) in counted {
         println!("    {name}: {count}");
     }
@@ -177,4 +176,21 @@ pub fn add_each(to: &mut [u64], from: &[u64]) {
 fn list(counts: &[u64]) -> String {
     let texts: Vec<String> = counts.iter().map(u64::to_string).collect();
     texts.join(" ")
+}
+
+#[cfg(test)]
+mod tests {
+    use super::*;
+    use crate::case::Lent;
+    use crate::expect::of_reply;
+
+    #[test]
+    fn a_code_that_is_not_in_the_table_is_counted() {
+        let (placing, bytes) = (0, vec![]);
+        let case = Case::Check(Lent { placing, bytes });
+        let labels = vec![];
+        let mut tally = Tally::default();
+        tally.count(&Made { labels, case }, &of_reply(paper::reply(99, 0)));
+        assert_eq!(tally.reached(Call::Check), [99]);
+    }
 }

@@ -9,30 +9,34 @@ use paper::colour::{BLACK, GRAY, TERMINAL, TERMINAL_COMPLEMENT, WHITE};
 use paper::fractions::{Point, Values};
 use paper::root::{Cube, Root};
 use paper::sheet::{self, Record, Sheet};
-use paper::Reply;
+use paper::{reply, Refusal, Reply};
 
 /// Deeper maps built by a wrong rule may have millions of leaves.
 const DEEPEST: u8 = 4;
 
-/// The outcome of a build by another colouring and over another root; for any other case, the paper's outcome.
-fn built(case: &Case, colouring: &Colouring, over: impl Fn(&Root) -> Root) -> Outcome {
+/// The outcome of a build whose map is made in another way; for any other case, the paper's outcome.
+fn built(case: &Case, map: impl Fn(&Sheet, &Root) -> Result<Vec<u8>, Refusal>) -> Outcome {
     let asked = match case {
         Case::Build(asked) if asked.root.d <= DEEPEST => asked,
         _ => return by_paper(case),
     };
     let sheet = sheet::read(&asked.sheet);
-    of_map(
-        asked,
-        sheet.and_then(|sheet| map_by(colouring, &sheet, &over(&asked.root))),
-    )
+    of_map(asked, sheet.and_then(|sheet| map(&sheet, &asked.root)))
 }
 
 pub fn coloured(case: &Case, colouring: &Colouring) -> Outcome {
-    built(case, colouring, |root| *root)
+    built(case, |sheet, root| map_by(colouring, sheet, root))
+}
+
+/// The paper's map, over another root.
+fn over_root(case: &Case, other: fn(&Root) -> Root) -> Outcome {
+    built(case, |sheet, root| {
+        map_by(&colour::colour, sheet, &other(root))
+    })
 }
 
 pub fn low_corner_exchanged(case: &Case) -> Outcome {
-    built(case, &colour::colour, |root| {
+    over_root(case, |root| {
         let [x, y, z] = root.low;
         Root {
             low: [x, z, y],
@@ -43,15 +47,52 @@ pub fn low_corner_exchanged(case: &Case) -> Outcome {
 
 /// A side of 2^16 is out of limits too.
 pub fn k_at_most_15(case: &Case) -> Outcome {
-    built(case, &colour::colour, |root| Root {
+    over_root(case, |root| Root {
         k: if root.k == 16 { 17 } else { root.k },
         ..*root
     })
 }
 
+pub fn limit_refused(case: &Case) -> Outcome {
+    built(case, |sheet, root| {
+        let reached = || bounds::first_past(FURTHEST - 1, sheet, &root.cube());
+        match root.in_limits().then(reached).flatten() {
+            Some(record) => Err(reply(7, record)),
+            None => map_by(&colour::colour, sheet, root),
+        }
+    })
+}
+
+/// The paper's map, from other records.
+fn of_records(case: &Case, other: fn(&Record) -> Option<Record>) -> Outcome {
+    built(case, |sheet, root| {
+        let read = |record: &Record| other(record).unwrap_or(record.clone());
+        let records = sheet.records.iter().map(read).collect();
+        map_by(&colour::colour, &Sheet { records }, root)
+    })
+}
+
+pub fn square_as_product(case: &Case) -> Outcome {
+    of_records(case, |record| match *record {
+        Record::Square(a) => Some(Record::Product(a, a)),
+        _ => None,
+    })
+}
+
+pub fn kinds_exchanged(case: &Case) -> Outcome {
+    of_records(case, |record| match *record {
+        Record::Sum(a, b) => Some(Record::Product(a, b)),
+        Record::Product(a, b) => Some(Record::Sum(a, b)),
+        _ => None,
+    })
+}
+
+pub fn z_reads_y(case: &Case) -> Outcome {
+    of_records(case, |record| (*record == Record::Z).then_some(Record::Y))
+}
+
 /// Black if all corners are inside, white if none is.
-pub fn corners(sheet: &Sheet, cube: &Cube) -> Result<Colour, usize> {
-    bounds::over(sheet, cube)?;
+pub fn corners(sheet: &Sheet, cube: &Cube) -> Colour {
     let corner = |number: usize| {
         let along = |axis: usize| cube.low[axis] + cube.side * ((number >> axis) & 1) as i64;
         Point::whole([0, 1, 2].map(|axis| along(axis) as i32))
@@ -62,17 +103,17 @@ pub fn corners(sheet: &Sheet, cube: &Cube) -> Result<Colour, usize> {
         8 => BLACK,
         _ => GRAY,
     };
-    Ok(Colour { class, face: 0 })
+    Colour { class, face: 0 }
 }
 
 /// The paper's colour, from other bounds.
-fn by_bounds(sheet: &Sheet, cube: &Cube, other: fn(Interval) -> Interval) -> Result<Colour, usize> {
-    let bounds = bounds::over(sheet, cube)?;
+fn by_bounds(sheet: &Sheet, cube: &Cube, other: fn(Interval) -> Interval) -> Colour {
+    let bounds = bounds::over(sheet, cube);
     let bounds: Vec<_> = bounds.into_iter().map(|one| one.map(other)).collect();
-    Ok(colour::class(colour::solid(&RULES, sheet, &bounds)))
+    colour::class(colour::solid(&RULES, sheet, &bounds))
 }
 
-pub fn zero_out(sheet: &Sheet, cube: &Cube) -> Result<Colour, usize> {
+pub fn zero_out(sheet: &Sheet, cube: &Cube) -> Colour {
     by_bounds(sheet, cube, |of| Interval {
         low: if of.low == 0 && of.high > 0 {
             1
@@ -83,52 +124,19 @@ pub fn zero_out(sheet: &Sheet, cube: &Cube) -> Result<Colour, usize> {
     })
 }
 
-pub fn zero_undecided(sheet: &Sheet, cube: &Cube) -> Result<Colour, usize> {
+pub fn zero_undecided(sheet: &Sheet, cube: &Cube) -> Colour {
     by_bounds(sheet, cube, |of| Interval {
         high: if of.high == 0 { 1 } else { of.high },
         ..of
     })
 }
 
-/// The paper's colour, from other records.
-fn by_records(
-    sheet: &Sheet,
-    cube: &Cube,
-    other: fn(&Record) -> Option<Record>,
-) -> Result<Colour, usize> {
-    let read = |record: &Record| other(record).unwrap_or(record.clone());
-    let records = sheet.records.iter().map(read).collect();
-    colour::colour(&Sheet { records }, cube)
-}
-
-pub fn square_as_product(sheet: &Sheet, cube: &Cube) -> Result<Colour, usize> {
-    by_records(sheet, cube, |record| match *record {
-        Record::Square(a) => Some(Record::Product(a, a)),
-        _ => None,
-    })
-}
-
-pub fn kinds_exchanged(sheet: &Sheet, cube: &Cube) -> Result<Colour, usize> {
-    by_records(sheet, cube, |record| match *record {
-        Record::Sum(a, b) => Some(Record::Product(a, b)),
-        Record::Product(a, b) => Some(Record::Sum(a, b)),
-        _ => None,
-    })
-}
-
-pub fn z_reads_y(sheet: &Sheet, cube: &Cube) -> Result<Colour, usize> {
-    by_records(sheet, cube, |record| {
-        (*record == Record::Z).then_some(Record::Y)
-    })
-}
-
 /// The paper's colour, by other rules for states.
-fn by_rules(sheet: &Sheet, cube: &Cube, rules: &Rules) -> Result<Colour, usize> {
-    let bounds = bounds::over(sheet, cube)?;
-    Ok(colour::class(colour::solid(rules, sheet, &bounds)))
+fn by_rules(sheet: &Sheet, cube: &Cube, rules: &Rules) -> Colour {
+    colour::class(colour::solid(rules, sheet, &bounds::over(sheet, cube)))
 }
 
-pub fn either_not_passed_on(sheet: &Sheet, cube: &Cube) -> Result<Colour, usize> {
+pub fn either_not_passed_on(sheet: &Sheet, cube: &Cube) -> Colour {
     let either = |p, q| match (p, q) {
         (State::In, _) | (_, State::In) => State::In,
         (State::Out, State::Out) => State::Out,
@@ -137,7 +145,7 @@ pub fn either_not_passed_on(sheet: &Sheet, cube: &Cube) -> Result<Colour, usize>
     by_rules(sheet, cube, &Rules { either, ..RULES })
 }
 
-pub fn complement_ignored(sheet: &Sheet, cube: &Cube) -> Result<Colour, usize> {
+pub fn complement_ignored(sheet: &Sheet, cube: &Cube) -> Colour {
     let complement = |p| p;
     let rules = Rules {
         complement,
@@ -147,26 +155,16 @@ pub fn complement_ignored(sheet: &Sheet, cube: &Cube) -> Result<Colour, usize> {
 }
 
 /// A leaf is terminal only if the sheet has one face.
-pub fn all_faces(sheet: &Sheet, cube: &Cube) -> Result<Colour, usize> {
-    let colour = colour::colour(sheet, cube)?;
+pub fn all_faces(sheet: &Sheet, cube: &Cube) -> Colour {
+    let colour = colour::colour(sheet, cube);
     let faces = (0..sheet.records.len()).filter(|&number| sheet.is_face(number));
     let has_more = faces.count() > 1;
     match colour.class {
-        TERMINAL | TERMINAL_COMPLEMENT if has_more => Ok(Colour {
+        TERMINAL | TERMINAL_COMPLEMENT if has_more => Colour {
             class: GRAY,
             face: 0,
-        }),
-        _ => Ok(colour),
-    }
-}
-
-pub fn limit_refused(sheet: &Sheet, cube: &Cube) -> Result<Colour, usize> {
-    let bounds = bounds::over(sheet, cube)?;
-    let reaches =
-        |of: &Option<Interval>| of.is_some_and(|of| of.low == -FURTHEST || of.high == FURTHEST);
-    match bounds.iter().position(reaches) {
-        Some(record) => Err(record),
-        None => colour::colour(sheet, cube),
+        },
+        _ => colour,
     }
 }
 

@@ -1,7 +1,8 @@
 //! "Bounds over a closed cube".
 
-use crate::root::Cube;
-use crate::sheet::{Record::*, Sheet};
+use crate::root::{Cube, Root};
+use crate::sheet::{Record, Record::*, Sheet};
+use crate::{reply, Refusal};
 
 /// Bounds [low, high], exact whole numbers.
 #[derive(Clone, Copy, Debug, PartialEq, Eq)]
@@ -53,33 +54,55 @@ impl Interval {
         }
     }
 
-    pub fn passes_limit(self) -> bool {
-        self.low < -FURTHEST || self.high > FURTHEST
+    /// Whether an end lies further from 0 than this.
+    pub fn passes(self, furthest: i128) -> bool {
+        self.low < -furthest || self.high > furthest
     }
 }
 
-/// The bounds of all records over a closed cube, None for a logical one; or the first record whose
-/// bounds pass 2^60. Its bounds are exact, since those of its operands are within the limit.
-pub fn over(sheet: &Sheet, cube: &Cube) -> Result<Vec<Option<Interval>>, usize> {
-    let mut all: Vec<Option<Interval>> = Vec::new();
-    for (number, record) in sheet.records.iter().enumerate() {
-        let of = |a: usize| all[a].expect("an operand is arithmetic");
-        let along = |axis: usize| interval(cube.low[axis], cube.high(axis));
-        let bounds = match *record {
-            Constant(c) => Some(interval(c, c)),
-            X => Some(along(0)),
-            Y => Some(along(1)),
-            Z => Some(along(2)),
-            Sum(a, b) => Some(of(a).sum(of(b))),
-            Difference(a, b) => Some(of(a).difference(of(b))),
-            Product(a, b) => Some(of(a).product(of(b))),
-            Square(a) => Some(of(a).square()),
-            Face(_) | Both(..) | Either(..) | Complement(_) => None,
-        };
-        if bounds.is_some_and(Interval::passes_limit) {
-            return Err(number);
-        }
-        all.push(bounds);
+/// The bounds of a record over a closed cube, from those of the records before it; None for a logical one.
+fn of_record(record: &Record, earlier: &[Option<Interval>], cube: &Cube) -> Option<Interval> {
+    let of = |a: usize| earlier[a].expect("an operand is arithmetic");
+    let along = |axis: usize| interval(cube.low[axis], cube.high(axis));
+    match *record {
+        Constant(c) => Some(interval(c, c)),
+        X => Some(along(0)),
+        Y => Some(along(1)),
+        Z => Some(along(2)),
+        Sum(a, b) => Some(of(a).sum(of(b))),
+        Difference(a, b) => Some(of(a).difference(of(b))),
+        Product(a, b) => Some(of(a).product(of(b))),
+        Square(a) => Some(of(a).square()),
+        Face(_) | Both(..) | Either(..) | Complement(_) => None,
     }
-    Ok(all)
+}
+
+/// The bounds of all records over a closed cube, None for a logical one. They are exact if the cube's root is
+/// within the limit: over a smaller cube they lie inside those over the root.
+pub fn over(sheet: &Sheet, cube: &Cube) -> Vec<Option<Interval>> {
+    let mut all = Vec::with_capacity(sheet.records.len());
+    for record in &sheet.records {
+        all.push(of_record(record, &all, cube));
+    }
+    all
+}
+
+/// The first record with an end of its bounds over a closed cube further from 0 than this. Its bounds are exact,
+/// since those of its operands lie nearer.
+pub fn first_past(furthest: i128, sheet: &Sheet, cube: &Cube) -> Option<usize> {
+    let mut all = Vec::with_capacity(sheet.records.len());
+    sheet.records.iter().position(|record| {
+        let bounds = of_record(record, &all, cube);
+        all.push(bounds);
+        bounds.is_some_and(|of| of.passes(furthest))
+    })
+}
+
+/// Every arithmetic record's bounds over the root must lie in -2^60 to 2^60, used by the solid or not. Otherwise
+/// reply 7, with the first record whose bounds do not.
+pub fn within_limit(sheet: &Sheet, root: &Root) -> Result<(), Refusal> {
+    match first_past(FURTHEST, sheet, &root.cube()) {
+        Some(record) => Err(reply(7, record)),
+        None => Ok(()),
+    }
 }

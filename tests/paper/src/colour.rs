@@ -110,8 +110,7 @@ pub fn class(solid: State) -> Colour {
     }
 }
 
-/// The colour of a cube, or the first record whose bounds over it pass 2^60.
-pub fn colour(sheet: &Sheet, cube: &Cube) -> Result<Colour, usize> {
-    let bounds = bounds::over(sheet, cube)?;
-    Ok(class(solid(&RULES, sheet, &bounds)))
+/// The colour of a cube of a root that is within the limit.
+pub fn colour(sheet: &Sheet, cube: &Cube) -> Colour {
+    class(solid(&RULES, sheet, &bounds::over(sheet, cube)))
 }

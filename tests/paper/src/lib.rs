@@ -11,6 +11,7 @@ pub mod fractions;
 pub mod lookup;
 pub mod map;
 pub mod root;
+pub mod row_11;
 pub mod sheet;
 pub mod whole;
 

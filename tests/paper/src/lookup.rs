@@ -29,7 +29,7 @@ pub fn lookup(sheet: &[u8], map: &[u8], point: [i32; 3]) -> Reply {
 pub fn open(sheet: &[u8], map: &[u8]) -> Result<Opened, Refusal> {
     let sheet = sheet::read(sheet)?;
     let map = map::read_for(map, &sheet)?;
-    bounds::over(&sheet, &map.root.cube()).map_err(|record| reply(7, record))?;
+    bounds::within_limit(&sheet, &map.root)?;
     Ok(Opened { sheet, map })
 }
 

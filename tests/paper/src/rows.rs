@@ -89,7 +89,7 @@ fn bounds_of_the_rows() {
         side: 2,
         level: 0,
     };
-    let bounds = over(&Sheet { records }, &cube).unwrap();
+    let bounds = over(&Sheet { records }, &cube);
     assert_eq!(bounds[3], Some(interval(16, 36)));
     let x = interval(-3, 2);
     assert_eq!(x.square(), interval(0, 9));

@@ -69,12 +69,11 @@ pub fn satisfies(records: &[Record], face: u8, point: [i32; 3]) -> bool {
 }
 
 impl Build<'_> {
-    /// Appends the leaves of a cube.
-    fn add(&mut self, cube: Cube) -> Result<(), Refusal> {
+    /// Appends the leaves of a cube. The error is the first record that passes the limit, and only the root gives one: a smaller cube's
+    /// bounds lie inside the root's.
+    fn add(&mut self, cube: Cube) -> Result<(), usize> {
         self.cubes += 1;
-        let code = if cube.level == 0 { 7 } else { 11 };
-        let state = colour(self.records, &mut self.bounds, &mut self.states, &cube)
-            .map_err(|record| (code, record as u64))?;
+        let state = colour(self.records, &mut self.bounds, &mut self.states, &cube)?;
         if state == State::Mixed && cube.level < self.d {
             (0..8).try_for_each(|number| self.add(cube.child(number)))
         } else {
@@ -108,7 +107,9 @@ pub fn build(sheet: &[u8], root: &Root) -> Result<Map, Refusal> {
         map,
         cubes: 0,
     };
-    build.add(root.cube())?;
+    build
+        .add(root.cube())
+        .map_err(|record| (7, record as u64))?;
     let mut bytes = build.map;
     let following = bytes.len() as u32 - 4;
     bytes[..4].copy_from_slice(&following.to_be_bytes());

@@ -94,7 +94,7 @@ fn damaged_sheet(sheet: &[u8], numbers: &mut Numbers) -> Vec<u8> {
 #[derive(Default)]
 struct Counts {
     answers: [usize; 3],
-    refusals: [usize; 12],
+    refusals: [usize; 11],
 }
 
 impl Counts {

@@ -31,7 +31,7 @@ pub fn build(sheet: &[u8], x: i32, y: i32, z: i32, k: u8, d: u8, out: &mut [u8])
     }
 }
 
-// Replies 6 and 7, then the rest. The limit is tested over the root alone: if no record passes it there, none does over a smaller cube.
+// Replies 6 and 7, then the rest. Only the root can be refused for the limit: if no record passes it there, none does over a smaller cube.
 fn over_root(sheet: &[u8], solid: u8, root: Root, out: &mut [u8]) -> Reply
     requires { ⌜ solid + 1 ≡ length (recordsOf (now sheet)) ⌝ }
     ensures { λ r. ⌜ outcome r (now (out .exit)) ≡ overRootOf (recordsOf (now (sheet .entry))) root (now (out .entry)) ⌝ }

@@ -1,21 +1,18 @@
 -- Request 2026-11: where row 7 does not refuse, row 11 would not either, so dropping it changed no outcome; and no call returns 11.
 use mathlib.Core.Path.{_≡_, refl}
-use mathlib.Core.Bool.{cond, not}
+use mathlib.Core.Bool.{not}
 use mathlib.Core.List.{List, [], _∷_, _++_}
 use Prim.Native.Nat.{ℕ, zero, suc, _+_, _^_}
 use native.Mathlib.Omega.{arith}
-use borrow.Author.Tests.{ne-eqb}
-use lib.Dec.{eqb, ltb}
+use borrow.Author.Tests.{eqb-true, eqb-false}
+use lib.Dec.{eqb}
 use lib.IntN.{pos}
-use lib.ListN.{length}
-use Rattle.integers.specs.First.{onFirst}
 use Rattle.integers.specs.Least.{lesserOf, greaterOf}
 use Rattle.integers.proofs.Order.{by-test}
 use Rattle.interval.specs.Rules.{sum, difference, span, product, square}
 use Rattle.interval.specs.Limit.{isSmall, isWithin}
 use Rattle.replies.specs.declared.Reply.{Reply}
 use Rattle.replies.specs.declared.Reply.the-variants.{Done, Refused}
-use Rattle.replies.specs.Table.{codeOf, refusalOf}
 use Rattle.replies.proofs.Told.{no-code}
 use Rattle.sheet.specs.declared.Record.{Record}
 use Rattle.sheet.specs.declared.Record.the-variants.{Constant, Square, Product, Complement}
@@ -38,12 +35,14 @@ use Rattle.tree.specs.Visit.{upto}
 use Rattle.tree.specs.Solid.{solidState, isGray}
 use Rattle.tree.proofs.Visits.{upto-nothing}
 use Rattle.tree.proofs.Cubes.{child-none}
-use Rattle.building.specs.Build.{Outcome, outcome, builtMap, storedOf, overRootOf, buildOf}
+use Rattle.building.specs.Build.{outcome, overRootOf, buildOf}
 use Rattle.lookup.specs.Lookup.{lookupOf, numbered}
-use Rattle.zone.specs.Replies.{byNumber, zoneCheckOf, ZoneOutcome, zoneOutcome, outcomeByNumber, zoneBuildOf, zoneOpenOf, zoneLookupOf}
+use Rattle.zone.specs.Replies.{byNumber, zoneCheckOf, zoneBuildOf, zoneOpenOf, zoneLookupOf}
+use Rattle.zone.proofs.ByNumber.{done-code}
 use Rattle.demands.specs.Terms.{Never}
 use Rattle.demands.specs.Row11.{pastInTree, buildWithRow11}
 use Rattle.demands.specs.Demands.{Reply11}
+use Rattle.demands.proofs.Outcomes.{build-refused}
 
 -- ---- no cube below one that keeps the limit passes it
 none-in-tree : (rs : List Record) (left : ℕ) (q : Cube) → firstPast rs q ≡ [] → pastInTree rs left q ≡ []
@@ -54,8 +53,8 @@ none-in-tree rs (suc left) q none =
     (λ t. rw (none, t, upto-nothing (λ k. pastInTree rs left (childOf q k)) (λ k. none-in-tree rs left (childOf q k) (child-none rs q none k)) 8))
     (λ t. rw (none, t))
 
--- The old row is not always empty: for a root that passes the limit it lists each cube. c² x, where c is 2^29 + 1, passes it over the root of the step room and over the children in the high
--- half of x, and c^4 passes it everywhere. The solid is the complement of the step room, so the root is gray.
+-- The old row is not always empty: for a root that passes the limit it lists each cube. c² x, where c is 2^29 + 1, passes it over the root of the step room and
+-- over the children in the high half of x, and c^4 passes it everywhere. The solid is the complement of the step room, so the root is gray.
 past-rows : pastInTree (stepRecords ++ Constant (pos (2 ^ 29 + 1)) ∷ Square 8 ∷ Product 9 0 ∷ Square 9 ∷ Complement 7 ∷ []) 1 (rootCube (stepRoot 1))
     ≡ 10 ∷ 11 ∷ 10 ∷ 11 ∷ 10 ∷ 11 ∷ 10 ∷ 11 ∷ 10 ∷ []
 unfolding pastInTree upto isGray solidState firstPast pastFrom isWithin isSmall along onward entryOf faceBounds boundsOf stateOf across sum difference span product square lesserOf greaterOf faceState joinedBy otherwiseOf rootCube childOf
@@ -66,24 +65,19 @@ module _ (sheet : List ℕ) (root : Root) (before : List ℕ) where
   abbrev rs : List Record
   rs = recordsOf sheet
 
-  -- rows 1 to 5, if the rest agrees
-  after-check : (r : Reply) (rest : Outcome) (old : ZoneOutcome) → outcomeByNumber rest ≡ old
-      → outcomeByNumber (onFirst (refusalOf r) (λ why. outcome (Refused why) before) rest) ≡ cond (not (eqb (byNumber r .code) 0)) (zoneOutcome (byNumber r) before) old
-  after-check (Done n) rest old e = e
-  after-check (Refused why) rest old e = rw (ne-eqb (codeOf why) 0 (no-code 0 refl why))
-
   pub same : zoneBuildOf sheet root before ≡ buildWithRow11 sheet root before
-  unfolding zoneBuildOf buildOf overRootOf storedOf zoneCheckOf buildWithRow11 firstPast
+  unfolding zoneBuildOf buildOf overRootOf zoneCheckOf buildWithRow11 firstPast
   same =
-      after-check (checkOf sheet) _ _
+      by-test (eqb (zoneCheckOf sheet .code) 0)
+      (λ good.
+      rw (good, done-code (checkOf sheet) (eqb-true _ 0 good))
       (by-test (inLimits root)
       (λ within.
       past-cases 0 (entries (rootCube root) rs)
-      (λ none.
-      let below = none-in-tree rs (root .d) (rootCube root) none in
-      by-test (ltb (length before) (length (builtMap rs root))) (λ t. rw (within, none, below, t)) (λ t. rw (within, none, below, t)))
+      (λ none. rw (within, none, none-in-tree rs (root .d) (rootCube root) none))
       (λ n past. rw (within, past)))
-      (λ out. rw out))
+      (λ out. rw out)))
+      (λ bad. rw bad (build-refused sheet (eqb-false _ 0 bad) root before))
 
 -- ---- the code
 never-11 : (r : Reply) → Never 11 (byNumber r)

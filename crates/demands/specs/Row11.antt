@@ -3,8 +3,7 @@
 use mathlib.Core.Bool.{cond, not}
 use mathlib.Core.List.{List, [], _++_}
 use Prim.Native.Nat.{ℕ, zero, suc}
-use lib.Dec.{eqb, ltb}
-use lib.ListN.{length, drop}
+use lib.Dec.{eqb}
 use Rattle.integers.specs.First.{onFirst}
 use Rattle.sheet.specs.declared.Record.{Record}
 use Rattle.sheet.specs.Records.{recordsOf}
@@ -15,8 +14,8 @@ use Rattle.cube.specs.Cubes.{rootCube, childOf}
 use Rattle.colour.specs.Entries.{firstPast}
 use Rattle.tree.specs.Visit.{upto}
 use Rattle.tree.specs.Solid.{isGray}
-use Rattle.building.specs.Build.{builtMap}
-use Rattle.zone.specs.Replies.{reply, zoneCheckOf, ZoneOutcome, zoneOutcome}
+use Rattle.building.specs.Build.{builtMap, storedOf}
+use Rattle.zone.specs.Replies.{reply, zoneCheckOf, ZoneOutcome, zoneOutcome, outcomeByNumber}
 
 -- of each cube of the tree, the first record whose bounds pass 2^60, if one does, a cube before its children (over the root itself none does where row 7
 -- did not refuse)
@@ -24,7 +23,7 @@ unfoldable pub pastInTree : List Record → ℕ → Cube → List ℕ
 pastInTree rs zero q = firstPast rs q
 pastInTree rs (suc left) q = firstPast rs q ++ cond (isGray rs q) (upto (λ k. pastInTree rs left (childOf q k)) 8) []
 
--- zone_build by the table as it was, row by row: 1 to 5, 6, 7, 11 and 8, then the map
+-- zone_build by the table as it was, row by row: 1 to 5, 6, 7 and 11, and from 8 on as it is
 module _ (sheet : List ℕ) (root : Root) (before : List ℕ) where
   abbrev refused : ℕ → ℕ → ZoneOutcome
   refused code number = zoneOutcome (reply code number) before
@@ -32,10 +31,8 @@ module _ (sheet : List ℕ) (root : Root) (before : List ℕ) where
   unfoldable pub buildWithRow11 : ZoneOutcome
   buildWithRow11 =
       let rs = recordsOf sheet in
-      let map = builtMap rs root in
       cond (not (eqb (zoneCheckOf sheet .code) 0)) (zoneOutcome (zoneCheckOf sheet) before)
       (cond (not (inLimits root)) (refused 6 0)
       (onFirst (firstPast rs (rootCube root)) (refused 7)
       (onFirst (pastInTree rs (root .d) (rootCube root)) (refused 11)
-      (cond (ltb (length before) (length map)) (refused 8 (length map))
-      (zoneOutcome (reply 0 (length map)) (map ++ drop (length map) before))))))
+      (outcomeByNumber (storedOf (builtMap rs root) before)))))

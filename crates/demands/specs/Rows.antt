@@ -3,8 +3,7 @@ use mathlib.Core.Path.{_≡_}
 use mathlib.Core.List.{List, [], _∷_, _++_}
 use Prim.Native.Nat.{ℕ, _≤_}
 use lib.IntN.{ℤ, pos, negsuc}
-use lib.ListN.{length, getD, drop}
-use Rattle.interval.specs.declared.Interval.{Interval}
+use lib.ListN.{length, drop}
 use Rattle.interval.specs.Rules.{from}
 use Rattle.sheet.specs.declared.Record.{Record}
 use Rattle.sheet.specs.declared.Record.the-variants.{Constant, X, Difference, Product, Square, Face}
@@ -16,7 +15,6 @@ use Rattle.cube.specs.declared.Point.{Point}
 use Rattle.cube.specs.Cubes.{rootCube}
 use Rattle.colour.specs.declared.State.the-variants.{In, Single}
 use Rattle.colour.specs.States.{faceState}
-use Rattle.colour.specs.Entries.{blank, entries}
 use Rattle.zonemap.specs.declared.Leaf.{Leaf}
 use Rattle.zonemap.specs.Map.{mapOf}
 use Rattle.zonemap.specs.Opening.{leavesOf}
@@ -24,6 +22,7 @@ use Rattle.zonemap.specs.StepRoom.{stepRoot, stepMap}
 use Rattle.tree.specs.Solid.{solidState}
 use Rattle.lookup.specs.Lookup.{leafHolding}
 use Rattle.zone.specs.Replies.{reply, zoneOutcome, zoneBuildOf, zoneLookupOf}
+use Rattle.demands.specs.Terms.{boundsOver}
 
 -- one claim for a list of statements: all of them hold
 unfoldable pub AllHold : List (Type 0) → Type 0
@@ -51,10 +50,6 @@ grayThenWhite = leaf 2 4 0 ∷ leaf 2 0 0 ∷ leaf 2 0 0 ∷ leaf 2 0 0 ∷ []
 abbrev at : ℕ → ℕ → Point
 at x y = record { x = pos x; y = pos y; z = pos 0 }
 
--- the bounds of record n over a cube
-abbrev boundsAt : Cube → List Record → ℕ → Interval
-boundsAt q rs n = getD (entries q rs) n blank .bounds
-
 -- the closed cube whose low corner is (low, 0, 0)
 abbrev along : ℤ → ℕ → Cube
 along low side = record { x = low; y = pos 0; z = pos 0; side = side; level = 0 }
@@ -76,9 +71,9 @@ elevenRows =
     -- (4,0,0): 10.
     ∷ LooksUp (at 4 0) 10 0
     -- x(10-x) over x from 4 to 6: [16, 36].
-    ∷ (boundsAt (along (pos 4) 2) (X ∷ Constant (pos 10) ∷ Difference 1 0 ∷ Product 0 2 ∷ []) 3 ≡ from (pos 16) (pos 36))
+    ∷ (boundsOver (X ∷ Constant (pos 10) ∷ Difference 1 0 ∷ Product 0 2 ∷ []) (along (pos 4) 2) 3 ≡ from (pos 16) (pos 36))
     -- square over [-3, 2]: [0, 9]; the product of x by itself there: [-6, 9].
-    ∷ ((boundsAt (along (negsuc 2) 5) (X ∷ Square 0 ∷ Product 0 0 ∷ []) 1 ≡ from (pos 0) (pos 9)) × (boundsAt (along (negsuc 2) 5) (X ∷ Square 0 ∷ Product 0 0 ∷ []) 2 ≡ from (negsuc 5) (pos 9)))
+    ∷ ((boundsOver (X ∷ Square 0 ∷ Product 0 0 ∷ []) (along (negsuc 2) 5) 1 ≡ from (pos 0) (pos 9)) × (boundsOver (X ∷ Square 0 ∷ Product 0 0 ∷ []) (along (negsuc 2) 5) 2 ≡ from (negsuc 5) (pos 9)))
     -- bounds [-2, 0]: In. Bounds [0, 2]: Single.
     ∷ ((f : ℕ) → (faceState (from (negsuc 1) (pos 0)) f ≡ In) × (faceState (from (pos 0) (pos 2)) f ≡ Single f))
     -- a sheet whose only logical record is a face, Single over the root, gives one leaf at any depth: level 0, class 2, that face.

@@ -39,6 +39,10 @@ impl Sheet {
         self.record(5, &[a, b])
     }
 
+    pub fn difference(&mut self, a: u8, b: u8) -> u8 {
+        self.record(6, &[a, b])
+    }
+
     pub fn product(&mut self, a: u8, b: u8) -> u8 {
         self.record(7, &[a, b])
     }
@@ -59,16 +63,20 @@ impl Sheet {
         self.record(19, &[p])
     }
 
+    /// The face where a is at most b.
+    pub fn not_above(&mut self, a: u8, b: u8) -> u8 {
+        let over = self.difference(a, b);
+        self.face(over)
+    }
+
     pub fn at_most(&mut self, a: u8, c: i32) -> u8 {
         let limit = self.constant(c);
-        let over = self.record(6, &[a, limit]);
-        self.face(over)
+        self.not_above(a, limit)
     }
 
     pub fn at_least(&mut self, a: u8, c: i32) -> u8 {
         let limit = self.constant(c);
-        let under = self.record(6, &[limit, a]);
-        self.face(under)
+        self.not_above(limit, a)
     }
 
     /// The space between two planes across an axis.
@@ -80,7 +88,7 @@ impl Sheet {
 
     pub fn offset(&mut self, axis: u8, centre: i32) -> u8 {
         let (a, c) = (self.coordinate(axis), self.constant(centre));
-        self.record(6, &[a, c])
+        self.difference(a, c)
     }
 
     pub fn offset_squared(&mut self, axis: u8, centre: i32) -> u8 {

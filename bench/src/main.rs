@@ -49,12 +49,18 @@ fn leaves(map: &[u8]) -> usize {
 
 fn speed() {
     println!("building: nanoseconds of processor time per cube, median of {RUNS} runs (least)");
+    speed_of("corridors, without a product", &sheets::corridors());
+    speed_of("vaults, with products", &sheets::vaulted());
+}
+
+fn speed_of(what: &str, cases: &[Case]) {
+    println!("{what}");
     println!("records   cubes  leaves            baseline             library  library / baseline");
     for Case {
         records,
         sheet,
         root,
-    } in &sheets::corridors()
+    } in cases
     {
         let map = baseline::build(sheet, root).expect("the sheet is good");
         let mut out = vec![0; map.bytes.len()];

@@ -1,5 +1,5 @@
-//! Sheets to measure with: a corridor of rooms with bays, columns and domes in 50, 150 and 256 records, a round hall in 16 and in 50, one
-//! with high powers, and one that is gray to depth 10.
+//! Sheets to measure with: a corridor of rooms with bays, columns and domes in 50, 150 and 256 records, vaults whose faces are products in as
+//! many, a round hall in 16 and in 50, one with high powers, and one that is gray to depth 10.
 use crate::baseline::Root;
 use crate::drawing::Sheet;
 
@@ -10,8 +10,10 @@ pub struct Case {
     pub root: Root,
 }
 
-/// The most records that a part of a room takes (apart from the first box), and the fewest that a roof can fill.
+/// The most records that a part of a room takes (apart from the first box).
 const MOST_OF_A_PART: usize = 14;
+/// The records that a vault takes.
+const RECORDS_OF_A_VAULT: usize = 19;
 /// The fewest records that a roof can take; it can take any number from this on.
 const LEAST_OF_A_ROOF: usize = 13;
 
@@ -66,6 +68,26 @@ fn room(s: &mut Sheet, i: i32, solid: u8) -> u8 {
     s.either(solid, next)
 }
 
+/// The solid with a vault: its roof is a saddle, (x - a)(y - b) at most c (z - h), and its front is curved, c (y - b) at most (x - a)(e - x).
+/// The vaults stand on all sides of the origin, so that factors of all signs occur.
+fn vault(s: &mut Sheet, i: i32, solid: u8) -> u8 {
+    let (west, scale) = (-1700 + 290 * i, 300 + 13 * i);
+    let (x, y, z) = (
+        s.offset(0, west),
+        s.offset(1, 210 - 35 * i),
+        s.offset(2, 55 * i - 330),
+    );
+    let scale = s.constant(scale);
+    let (curved, straight) = (s.product(x, y), s.product(scale, z));
+    let roof = s.not_above(curved, straight);
+    let (east, east_wall) = (s.coordinate(0), s.constant(west + 900));
+    let inward = s.difference(east_wall, east);
+    let (deep, round) = (s.product(scale, y), s.product(x, inward));
+    let front = s.not_above(deep, round);
+    let vault = s.both(roof, front);
+    s.either(solid, vault)
+}
+
 /// Cuts the solid by slanting planes, of four records or of five with a complement, until there are exactly `records` records.
 fn roof(s: &mut Sheet, mut solid: u8, records: usize) -> u8 {
     let (y, z) = (s.coordinate(1), s.coordinate(2));
@@ -85,17 +107,22 @@ fn roof(s: &mut Sheet, mut solid: u8, records: usize) -> u8 {
     solid
 }
 
-/// The case of a sheet with exactly `records` records, over a root at the origin.
-fn finished(s: Sheet, records: usize, k: u8, d: u8) -> Case {
+/// The case of a sheet with exactly `records` records.
+fn finished(s: Sheet, records: usize, root: Root) -> Case {
     assert_eq!(s.count(), records);
     Case {
         records,
         sheet: s.finish(),
-        root: Root {
-            corner: [0, 0, 0],
-            k,
-            d,
-        },
+        root,
+    }
+}
+
+/// A root whose low corner is the origin.
+fn from_origin(k: u8, d: u8) -> Root {
+    Root {
+        corner: [0, 0, 0],
+        k,
+        d,
     }
 }
 
@@ -110,16 +137,43 @@ fn corridor(records: usize, k: u8, d: u8) -> Case {
         next += 1;
     }
     roof(&mut s, solid, records);
-    finished(s, records, k, d)
+    finished(s, records, from_origin(k, d))
 }
 
-/// The sheets of the speed measure.
+/// As many vaults as fit, under a roof that takes the rest of the `records` records, over a root with the origin at its centre.
+fn vaults(records: usize, k: u8, d: u8) -> Case {
+    let mut s = Sheet::default();
+    let mut solid = space(&mut s, 0);
+    let mut next = 0;
+    while s.count() + RECORDS_OF_A_VAULT + LEAST_OF_A_ROOF <= records {
+        solid = vault(&mut s, next, solid);
+        next += 1;
+    }
+    roof(&mut s, solid, records);
+    let low = -(1 << (k - 1));
+    finished(
+        s,
+        records,
+        Root {
+            corner: [low; 3],
+            k,
+            d,
+        },
+    )
+}
+
+/// The sheets of the speed measure, without products.
 pub fn corridors() -> [Case; 3] {
     [
         corridor(50, 11, 7),
         corridor(150, 12, 7),
         corridor(256, 13, 8),
     ]
+}
+
+/// The sheets of the speed measure, with products.
+pub fn vaulted() -> [Case; 3] {
+    [vaults(50, 12, 5), vaults(150, 12, 5), vaults(256, 12, 5)]
 }
 
 /// A quarter of a round hall, whose wall is two cylinders a few units apart, so that a deeper map has more leaves. If `records` is more than
@@ -134,7 +188,7 @@ fn hall(records: usize, d: u8) -> Case {
         let room = roof(&mut s, space, records - 1);
         s.either(wall, room);
     }
-    finished(s, records, 14, d)
+    finished(s, records, from_origin(14, d))
 }
 
 /// Fourth powers, which pass the limit over a root that is large or far away.

@@ -1,5 +1,5 @@
 -- Laws of the lesser and the greater of two whole numbers, and of the least and the greatest of four.
-use mathlib.Core.Path.{_≡_, ap₂, _∙_}
+use mathlib.Core.Path.{_≡_, sym, ap₂, _∙_}
 use lib.IntN.{ℤ}
 use lib.Signed.{leZ, _≤ℤ_, ≤ℤ-refl}
 use Rattle.integers.specs.Least.{lesserOf, greaterOf, leastOf, greatestOf}
@@ -32,19 +32,31 @@ module _ (a b : ℤ) where
   unfolding greaterOf
   greater-right = by-test (leZ a b) (λ h. rw h (≤ℤ-refl b)) (λ h. rw h (leZ-false a b h))
 
-  lesser-first : a ≤ℤ b → lesserOf a b ≡ a
+  pub lesser-first : a ≤ℤ b → lesserOf a b ≡ a
   unfolding lesserOf
   lesser-first h = rw (le-test a b h)
 
-  greater-second : a ≤ℤ b → greaterOf a b ≡ b
+  pub greater-second : a ≤ℤ b → greaterOf a b ≡ b
   unfolding greaterOf
   greater-second h = rw (le-test a b h)
 
-  lesser-second : b ≤ℤ a → lesserOf a b ≡ b
+  pub lesser-second : b ≤ℤ a → lesserOf a b ≡ b
   lesser-second h = ≤-both _ _ lesser-right (lesser-either (λ z. b ≤ℤ z) a b h (≤ℤ-refl b))
 
-  greater-first : b ≤ℤ a → greaterOf a b ≡ a
+  pub greater-first : b ≤ℤ a → greaterOf a b ≡ a
   greater-first h = ≤-both _ _ (greater-either (λ z. z ≤ℤ a) a b (≤ℤ-refl a) h) greater-left
+
+-- the order of the two does not matter
+module _ (a b : ℤ) where
+  pub lesser-commutes : lesserOf a b ≡ lesserOf b a
+  lesser-commutes =
+      by-test (leZ a b) (λ t. let h = leZ-true a b t in lesser-first a b h ∙ sym (lesser-second b a h))
+      (λ t. let h = leZ-false a b t in lesser-second a b h ∙ sym (lesser-first b a h))
+
+  pub greater-commutes : greaterOf a b ≡ greaterOf b a
+  greater-commutes =
+      by-test (leZ a b) (λ t. let h = leZ-true a b t in greater-second a b h ∙ sym (greater-first b a h))
+      (λ t. let h = leZ-false a b t in greater-first a b h ∙ sym (greater-second b a h))
 
 -- ---- of four
 module _ (P : ℤ → Type 0) (p q r s : ℤ) (hp : P p) (hq : P q) (hr : P r) (hs : P s) where
@@ -76,6 +88,20 @@ module _ (p q r s : ℤ) where
 
   pub fourth-spanned : Spanned s
   fourth-spanned = in-right s (lesser-right r s) (greater-right r s)
+
+-- the order of the second and the third does not matter
+module _ (p q r s : ℤ) where
+  least-below : leastOf p q r s ≤ℤ leastOf p r q s
+  least-below = least-any (λ z. leastOf p q r s ≤ℤ z) p r q s (first-spanned p q r s .0) (third-spanned p q r s .0) (second-spanned p q r s .0) (fourth-spanned p q r s .0)
+
+  greatest-above : greatestOf p r q s ≤ℤ greatestOf p q r s
+  greatest-above = greatest-any (λ z. z ≤ℤ greatestOf p q r s) p r q s (first-spanned p q r s .1) (third-spanned p q r s .1) (second-spanned p q r s .1) (fourth-spanned p q r s .1)
+
+pub least-crossed : (p q r s : ℤ) → leastOf p q r s ≡ leastOf p r q s
+least-crossed p q r s = ≤-both _ _ (least-below p q r s) (least-below p r q s)
+
+pub greatest-crossed : (p q r s : ℤ) → greatestOf p q r s ≡ greatestOf p r q s
+greatest-crossed p q r s = ≤-both _ _ (greatest-above p r q s) (greatest-above p q r s)
 
 -- ---- a function that keeps the order keeps the lesser and the greater
 module _ (f : ℤ → ℤ) (keeps : (a b : ℤ) → a ≤ℤ b → f a ≤ℤ f b) where

@@ -80,6 +80,13 @@ pub *-turns : (k a b : ℤ) → k ≤ℤ pos 0 → a ≤ℤ b → (b *ℤ k) ≤
 *-turns (pos (suc n)) a b s h = let z : ⊥ = omega (arith, ints) in absurd z
 *-turns (negsuc n) a b s h = omega (arith, ints, *-is a (negsuc n), *-is b (negsuc n), mul-le-mul-right (suc n) (≤-in a b h))
 
+-- the same of a factor on the left
+pub *-keeps-left : (k a b : ℤ) → pos 0 ≤ℤ k → a ≤ℤ b → (k *ℤ a) ≤ℤ (k *ℤ b)
+*-keeps-left k a b s h = rw (*ℤ-comm k a, *ℤ-comm k b) (*-keeps k a b s h)
+
+pub *-turns-left : (k a b : ℤ) → k ≤ℤ pos 0 → a ≤ℤ b → (k *ℤ b) ≤ℤ (k *ℤ a)
+*-turns-left k a b s h = rw (*ℤ-comm k a, *ℤ-comm k b) (*-turns k a b s h)
+
 -- ---- a natural number as a scale factor
 pub scale-keeps : (n : ℕ) (a b : ℤ) → a ≤ℤ b → (a *ℤ pos n) ≤ℤ (b *ℤ pos n)
 scale-keeps n a b h = *-keeps (pos n) a b (≤-out (pos 0) (pos n) (omega arith)) h

@@ -2,6 +2,8 @@ pub mod Limit
 pub mod Facts
 pub mod Tests
 pub mod Products
+pub mod Signs
+pub mod Corners
 pub mod Operations
 pub mod Inclusion
 pub mod Inside

@@ -1,4 +1,4 @@
--- Facts for the proofs of the operations on intervals, in the form that the proofs need: the machine reads a number back from its bits.
+-- Facts for the proofs of the sum, the difference and the square of intervals, in the form that the proofs need: the machine reads a number back from its bits.
 use mathlib.Core.Path.{_≡_, ap, ap₂, _∙_}
 use mathlib.Core.Bool.{true, false}
 use Prim.Native.Nat.{_≤_, _<_, _^_}
@@ -6,10 +6,10 @@ use lib.IntN.{ℤ, pos, natAbs, _+ℤ_, _-ℤ_, _*ℤ_}
 use lib.Signed.{mag, leZ}
 use mir.Syntax.{w64}
 use mir.Val.{toZ, ofZ}
-use Rattle.integers.specs.Least.{greaterOf, leastOf, greatestOf}
-use Rattle.integers.proofs.Least.{greater-kept, least-kept, greatest-kept}
+use Rattle.integers.specs.Least.{greaterOf}
+use Rattle.integers.proofs.Least.{greater-kept}
 use Rattle.integers.proofs.Machine.{again}
-use Rattle.interval.specs.Rules.{from, span, sum, difference, product, square}
+use Rattle.interval.specs.Rules.{from, sum, difference, square}
 use Rattle.interval.specs.Limit.{SmallEnds, isSmall, boundedOf}
 use Rattle.interval.specs.Inner.{clampOf}
 use Rattle.interval.specs.declared.Interval.{Interval}
@@ -28,23 +28,10 @@ module _ (r : Bounded) (i j : Interval) (si : SmallEnds i) (sj : SmallEnds j) wh
   unfolding difference
   difference-told e = e ∙ ap boundedOf (ap₂ from (difference-back (i .low) (j .high) (si .low) (sj .high)) (difference-back (i .high) (j .low) (si .high) (sj .low)))
 
--- ---- the product and the square: what a call of `times` returned, read back
+-- ---- what a call of `times` returned, read back
 pub times-told : (r a b : ℤ) → natAbs a ≤ 2 ^ 60 → natAbs b ≤ 2 ^ 60 → r ≡ clampOf (toZ w64 (ofZ w64 a) *ℤ toZ w64 (ofZ w64 b)) → mag r < 2 ^ 63
     → toZ w64 (ofZ w64 r) ≡ clampOf (a *ℤ b)
 times-told r a b ha hb e h = again w64 r (clampOf (a *ℤ b)) (rw (limit-back a ha, limit-back b hb) at e) h
-
--- the span of four numbers may be tested against the limit with the numbers clamped
-span-clamped : (p q r s : ℤ) → boundedOf (span (clampOf p) (clampOf q) (clampOf r) (clampOf s)) ≡ boundedOf (span p q r s)
-unfolding span
-span-clamped p q r s =
-    ap boundedOf (ap₂ from (least-kept clampOf clamp-keeps p q r s) (greatest-kept clampOf clamp-keeps p q r s)) ∙ bounded-clamped (leastOf p q r s) (greatestOf p q r s)
-
-pub product-told : (r : Bounded) (i j k : Interval) (ac ad bc bd : ℤ) → r ≡ boundedOf k → k ≡ span ac ad bc bd
-    → ac ≡ clampOf (i .low *ℤ j .low) → ad ≡ clampOf (i .low *ℤ j .high) → bc ≡ clampOf (i .high *ℤ j .low) → bd ≡ clampOf (i .high *ℤ j .high)
-    → r ≡ boundedOf (product i j)
-unfolding product
-product-told r i j k ac ad bc bd e f eac ead ebc ebd =
-    e ∙ ap boundedOf f ∙ rw (eac, ead, ebc, ebd) (span-clamped (i .low *ℤ j .low) (i .low *ℤ j .high) (i .high *ℤ j .low) (i .high *ℤ j .high))
 
 -- aa and bb are the squares of the ends, clamped
 module _ (r : Bounded) (i : Interval) (aa bb : ℤ) (s : SmallEnds i) (ea : aa ≡ clampOf (i .low *ℤ i .low)) (eb : bb ≡ clampOf (i .high *ℤ i .high)) where

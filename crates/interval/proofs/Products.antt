@@ -15,7 +15,7 @@ use Rattle.integers.proofs.Order.{by-test, negative}
 use Rattle.integers.proofs.Machine.{fits, result-fits, result-back}
 use Rattle.interval.specs.Limit.{isSmall}
 use Rattle.interval.specs.Inner.{clampOf}
-use Rattle.interval.proofs.Limit.{small-true, small-false, limit-fits, limit-back, difference-fits, difference-back, clamp-same}
+use Rattle.interval.proofs.Limit.{small-true, small-false, small-test, limit-fits, limit-back, difference-fits, difference-back, clamp-same}
 
 -- ---- magnitude
 module _ (a : ℤ) (h : natAbs a ≤ 2 ^ 60) where
@@ -34,9 +34,6 @@ module _ (a : ℤ) (h : natAbs a ≤ 2 ^ 60) where
 
 -- ---- is_small_product
 module _ (m n : ℕ) where
-  pub product-halves : m ≤ 2 ^ 30 → n ≤ 2 ^ 30 → true ≡ leb (m * n) (2 ^ 60)
-  product-halves h k = sym (le-leb (m * n) (2 ^ 60) (mul-le-mul h k))
-
   pub product-zero : n ≡ 0 → true ≡ leb (m * n) (2 ^ 60)
   product-zero e = sym (le-leb (m * n) (2 ^ 60) (rw e (omega arith)))
 
@@ -61,30 +58,52 @@ side (pos a) (negsuc b) h = rw (plus a, minus (a * suc b) (omega arith))
 side (negsuc a) (pos b) h = rw (plus b, minus (suc a * b) (omega arith))
 side (negsuc a) (negsuc b) h = refl
 
--- m and n are the magnitudes that the two calls returned, and s is what `is_small_product` returned for them
-module _ (a b : ℤ) (m n : ℕ) (s : Bool) (ha : natAbs a ≤ 2 ^ 60) (hb : natAbs b ≤ 2 ^ 60)
-    (em : m ≡ natAbs (toZ w64 (ofZ w64 a))) (en : n ≡ natAbs (toZ w64 (ofZ w64 b))) (e : s ≡ leb (m * n) (2 ^ 60)) where
-  small-is : isSmall (a *ℤ b) ≡ s
-  unfolding isSmall
-  small-is = rw abs-* (rw (limit-back a ha, limit-back b hb) at (sym (rw (em, en) at e)))
+module _ (a b : ℤ) (ha : natAbs a ≤ 2 ^ 60) (hb : natAbs b ≤ 2 ^ 60) where
+  -- a product within the limit is computed exactly
+  module _ (t : isSmall (a *ℤ b) ≡ true) where
+    product-fits : SFits w64 (a *ℤ b)
+    product-fits = fits w64 (a *ℤ b) (omega (arith, small-true (a *ℤ b) t))
 
-  product-fits : s ≡ true → SFits w64 (a *ℤ b)
-  product-fits t = fits w64 (a *ℤ b) (omega (arith, small-true (a *ℤ b) (small-is ∙ t)))
+    within-fits : SFits w64 (toZ w64 (ofZ w64 a) *ℤ toZ w64 (ofZ w64 b))
+    within-fits = result-fits w64 _*ℤ_ a b (limit-fits a ha) (limit-fits b hb) product-fits
 
-  pub times-fits : s ≡ true → SFits w64 (toZ w64 (ofZ w64 a) *ℤ toZ w64 (ofZ w64 b))
-  times-fits t = result-fits w64 _*ℤ_ a b (limit-fits a ha) (limit-fits b hb) (product-fits t)
+    within-exact : toZ w64 (ofZ w64 (toZ w64 (ofZ w64 a) *ℤ toZ w64 (ofZ w64 b))) ≡ clampOf (a *ℤ b)
+    within-exact = result-back w64 _*ℤ_ a b (limit-fits a ha) (limit-fits b hb) product-fits ∙ sym (clamp-same (a *ℤ b) t)
 
-  pub times-exact : s ≡ true → toZ w64 (ofZ w64 (toZ w64 (ofZ w64 a) *ℤ toZ w64 (ofZ w64 b))) ≡ clampOf (a *ℤ b)
-  times-exact t = result-back w64 _*ℤ_ a b (limit-fits a ha) (limit-fits b hb) (product-fits t) ∙ sym (clamp-same (a *ℤ b) (small-is ∙ t))
+  -- u and v are what the two calls of `is_short` returned
+  module _ (u v : Bool) (eu : u ≡ leb (natAbs (toZ w64 (ofZ w64 a))) (2 ^ 30)) (ev : v ≡ leb (natAbs (toZ w64 (ofZ w64 b))) (2 ^ 30)) (tu : u ≡ true) (tv : v ≡ true) where
+    short-small : isSmall (a *ℤ b) ≡ true
+    short-small =
+        let ka = leb-true (natAbs a) (2 ^ 30) (rw (limit-back a ha) at (sym eu ∙ tu)) in
+        let kb = leb-true (natAbs b) (2 ^ 30) (rw (limit-back b hb) at (sym ev ∙ tv)) in
+        small-test (a *ℤ b) (rw (abs-* a b) (mul-le-mul ka kb))
 
-  module _ (t : s ≡ false) where
-    side-is : (u : Bool) → Bool·beq (ltZ (toZ w64 (ofZ w64 a)) (pos 0)) (ltZ (toZ w64 (ofZ w64 b)) (pos 0)) ≡ u → nonNeg (a *ℤ b) ≡ u
-    side-is u k = side a b (omega (arith, abs-* a b, small-false (a *ℤ b) (small-is ∙ t))) ∙ (rw (limit-back a ha, limit-back b hb) at k)
+    pub short-fits : SFits w64 (toZ w64 (ofZ w64 a) *ℤ toZ w64 (ofZ w64 b))
+    short-fits = within-fits short-small
 
-    pub times-above : Bool·beq (ltZ (toZ w64 (ofZ w64 a)) (pos 0)) (ltZ (toZ w64 (ofZ w64 b)) (pos 0)) ≡ true → pos (2 ^ 60 + 1) ≡ clampOf (a *ℤ b)
-    unfolding clampOf
-    times-above k = rw (small-is, t, side-is true k)
+    pub short-exact : toZ w64 (ofZ w64 (toZ w64 (ofZ w64 a) *ℤ toZ w64 (ofZ w64 b))) ≡ clampOf (a *ℤ b)
+    short-exact = within-exact short-small
 
-    pub times-below : Bool·beq (ltZ (toZ w64 (ofZ w64 a)) (pos 0)) (ltZ (toZ w64 (ofZ w64 b)) (pos 0)) ≡ false → negℤ (pos (2 ^ 60 + 1)) ≡ clampOf (a *ℤ b)
-    unfolding clampOf
-    times-below k = rw (small-is, t, side-is false k)
+  -- m and n are the magnitudes that the two calls returned, and s is what `is_small_product` returned for them
+  module _ (m n : ℕ) (s : Bool) (em : m ≡ natAbs (toZ w64 (ofZ w64 a))) (en : n ≡ natAbs (toZ w64 (ofZ w64 b))) (e : s ≡ leb (m * n) (2 ^ 60)) where
+    small-is : isSmall (a *ℤ b) ≡ s
+    unfolding isSmall
+    small-is = rw abs-* (rw (limit-back a ha, limit-back b hb) at (sym (rw (em, en) at e)))
+
+    pub times-fits : s ≡ true → SFits w64 (toZ w64 (ofZ w64 a) *ℤ toZ w64 (ofZ w64 b))
+    times-fits t = within-fits (small-is ∙ t)
+
+    pub times-exact : s ≡ true → toZ w64 (ofZ w64 (toZ w64 (ofZ w64 a) *ℤ toZ w64 (ofZ w64 b))) ≡ clampOf (a *ℤ b)
+    times-exact t = within-exact (small-is ∙ t)
+
+    module _ (t : s ≡ false) where
+      side-is : (u : Bool) → Bool·beq (ltZ (toZ w64 (ofZ w64 a)) (pos 0)) (ltZ (toZ w64 (ofZ w64 b)) (pos 0)) ≡ u → nonNeg (a *ℤ b) ≡ u
+      side-is u k = side a b (omega (arith, abs-* a b, small-false (a *ℤ b) (small-is ∙ t))) ∙ (rw (limit-back a ha, limit-back b hb) at k)
+
+      pub times-above : Bool·beq (ltZ (toZ w64 (ofZ w64 a)) (pos 0)) (ltZ (toZ w64 (ofZ w64 b)) (pos 0)) ≡ true → pos (2 ^ 60 + 1) ≡ clampOf (a *ℤ b)
+      unfolding clampOf
+      times-above k = rw (small-is, t, side-is true k)
+
+      pub times-below : Bool·beq (ltZ (toZ w64 (ofZ w64 a)) (pos 0)) (ltZ (toZ w64 (ofZ w64 b)) (pos 0)) ≡ false → negℤ (pos (2 ^ 60 + 1)) ≡ clampOf (a *ℤ b)
+      unfolding clampOf
+      times-below k = rw (small-is, t, side-is false k)

@@ -1,11 +1,12 @@
--- Facts for the proofs of `is_small`, `is_within`, `limited`, `lesser`, `greater` and `span`, in the form that the proofs need: the machine reads a number back
+-- Facts for the proofs of `is_small`, `is_short`, `is_within`, `limited`, `lesser` and `greater`, in the form that the proofs need: the machine reads a number back
 -- from its bits.
 use mathlib.Core.Path.{_≡_, refl, sym, ap₂, _∙_}
-use mathlib.Core.Bool.{Bool, true, false, cond}
-use Prim.Native.Nat.{_<_, _^_}
+use mathlib.Core.Bool.{Bool, true, false, cond, _&&_}
+use Prim.Native.Nat.{ℕ, suc, _-_, _<_, _^_}
 use native.Mathlib.Omega.{arith}
-use borrow.Author.Tests.{leb-true, leb-false}
-use lib.IntN.{ℤ, pos, negsuc, negℤ}
+use borrow.Author.Tests.{leb-true, leb-false, le-leb, lt-leb}
+use lib.Dec.{leb}
+use lib.IntN.{ℤ, pos, negsuc, negℤ, natAbs}
 use lib.Signed.{mag, leZ}
 use mir.Syntax.{w64}
 use mir.Val.{SFits, toZ, ofZ}
@@ -15,25 +16,43 @@ use Rattle.integers.proofs.Machine.{again}
 use Rattle.interval.specs.Limit.{isSmall, isWithin, boundedOf}
 use Rattle.interval.specs.declared.Interval.{Interval}
 use Rattle.interval.specs.declared.Bounded.the-variants.{Within, Past}
-use Rattle.interval.proofs.Limit.{small-test, large-test}
 use Rattle.interval.proofs.Facts.{bounded-within, bounded-past}
 
--- ---- is_small: the two tests together are the test of the magnitude
-at-least : (x : ℤ) → leZ (negℤ (pos (2 ^ 60))) x ≡ true → leZ x (pos (2 ^ 60)) ≡ isSmall x
-unfolding isSmall
-at-least (pos n) t = refl
-at-least (negsuc n) t = sym (small-test (negsuc n) (omega (arith, leb-true)))
+-- ---- is_small and is_short: the two tests together are the test of the magnitude
+module _ (n : ℕ) where
+  at-least : (x : ℤ) → leZ (negsuc n) x ≡ true → leZ x (pos (suc n)) ≡ leb (natAbs x) (suc n)
+  at-least (pos m) t = refl
+  at-least (negsuc m) t = sym (le-leb (suc m) (suc n) (omega (arith, leb-true)))
 
-below : (x : ℤ) → leZ (negℤ (pos (2 ^ 60))) x ≡ false → leZ (negℤ (pos (2 ^ 60))) x ≡ isSmall x
-below (pos n) t = cc
-below (negsuc n) t = t ∙ sym (large-test (negsuc n) (omega (arith, leb-false)))
+  below : (x : ℤ) → leZ (negsuc n) x ≡ false → leZ (negsuc n) x ≡ leb (natAbs x) (suc n)
+  below (pos m) t = cc
+  below (negsuc m) t = t ∙ sym (lt-leb (suc m) (suc n) (omega (arith, leb-false)))
 
 module _ (x : ℤ) (f : SFits w64 x) where
+  pub short-at-least : leZ (negℤ (pos (2 ^ 30))) (toZ w64 (ofZ w64 x)) ≡ true → leZ (toZ w64 (ofZ w64 x)) (pos (2 ^ 30)) ≡ leb (natAbs x) (2 ^ 30)
+  short-at-least t = rw (toZ-ofZ f) (at-least (2 ^ 30 - 1) x (rw (toZ-ofZ f) at t))
+
+  pub short-below : leZ (negℤ (pos (2 ^ 30))) (toZ w64 (ofZ w64 x)) ≡ false → leZ (negℤ (pos (2 ^ 30))) (toZ w64 (ofZ w64 x)) ≡ leb (natAbs x) (2 ^ 30)
+  short-below t = rw (toZ-ofZ f) (below (2 ^ 30 - 1) x (rw (toZ-ofZ f) at t))
+
   pub small-at-least : leZ (negℤ (pos (2 ^ 60))) (toZ w64 (ofZ w64 x)) ≡ true → leZ (toZ w64 (ofZ w64 x)) (pos (2 ^ 60)) ≡ isSmall x
-  small-at-least t = rw (toZ-ofZ f) (at-least x (rw (toZ-ofZ f) at t))
+  unfolding isSmall
+  small-at-least t = rw (toZ-ofZ f) (at-least (2 ^ 60 - 1) x (rw (toZ-ofZ f) at t))
 
   pub small-below : leZ (negℤ (pos (2 ^ 60))) (toZ w64 (ofZ w64 x)) ≡ false → leZ (negℤ (pos (2 ^ 60))) (toZ w64 (ofZ w64 x)) ≡ isSmall x
-  small-below t = rw (toZ-ofZ f) (below x (rw (toZ-ofZ f) at t))
+  unfolding isSmall
+  small-below t = rw (toZ-ofZ f) (below (2 ^ 60 - 1) x (rw (toZ-ofZ f) at t))
+
+-- ---- a test that a function makes: b is what it returned
+pub test-told : (b x t : Bool) → b ≡ x → b ≡ t → x ≡ t
+test-told b x t e s = sym e ∙ s
+
+-- ---- two tests in a row, of which the second is made only if the first passes: b and d are their results
+pub and-first : (b x y : Bool) → b ≡ x → b ≡ false → b ≡ (x && y)
+and-first b x y e t = rw (sym e, t)
+
+pub and-second : (b d x y : Bool) → b ≡ x → b ≡ true → d ≡ y → d ≡ (x && y)
+and-second b d x y e t f = rw (sym e, t) f
 
 -- ---- is_within: b and d are what the two calls of `is_small` returned
 module _ (i : Interval) (b : Bool) (fl : SFits w64 (i .low)) (eb : b ≡ isSmall (toZ w64 (ofZ w64 (i .low)))) where

@@ -1,13 +1,14 @@
 // Exact intervals of whole numbers, whose ends lie in -2^60 to 2^60.
 
 ghost use mathlib.Core.Path.{_≡_};
+ghost use mathlib.Core.Bool.{true, false};
 ghost use Prim.Native.Nat.{_*_, _≤_, _^_};
 ghost use lib.Dec.{leb};
 ghost use lib.IntN.{natAbs, _*ℤ_};
 ghost use Rattle.integers.specs.Least.{lesserOf, greaterOf};
-ghost use Rattle.interval.specs.Rules.{span, sum, difference, product, square};
+ghost use Rattle.interval.specs.Rules.{sum, difference, product, square};
 ghost use Rattle.interval.specs.Limit.{SmallEnds, isSmall, isWithin, boundedOf};
-ghost use Rattle.interval.specs.Inner.{clampOf};
+ghost use Rattle.interval.specs.Inner.{OrderedEnds, isAcross, bothAcross, clampOf, clamped, orderedOf, leastFactor, greatestFactor};
 
 // The limit: the greatest end, the least end, and the greatest magnitude.
 const GREATEST: i64 = 1152921504606846976;
@@ -15,6 +16,9 @@ const GREATEST: i64 = 1152921504606846976;
 const LEAST: i64 = -GREATEST;
 
 const LIMIT: u64 = GREATEST as u64;
+
+// The product of two numbers up to this magnitude, 2^30, is within the limit.
+const SHORT: i64 = 1073741824;
 
 pub struct Interval {
     pub low: i64,
@@ -34,6 +38,13 @@ fn is_small(x: i64) -> bool
     LEAST <= x && x <= GREATEST
 }
 
+// Whether x lies in -2^30 to 2^30.
+fn is_short(x: i64) -> bool
+    ensures { λ r. ⌜ r ≡ leb (natAbs x) (2 ^ 30) ⌝ }
+{
+    -SHORT <= x && x <= SHORT
+}
+
 fn magnitude(x: i64) -> u64
     requires { ⌜ natAbs x ≤ 2 ^ 60 ⌝ }
     ensures { λ r. ⌜ r ≡ natAbs x ⌝ }
@@ -44,24 +55,25 @@ fn magnitude(x: i64) -> u64
     x as u64
 }
 
-// Whether m * n is at most 2^60. Two factors up to 2^30 need no division; for others the limit is divided, so that no product wraps.
+// Whether m * n is at most 2^60. The limit is divided, so that no product wraps.
 fn is_small_product(m: u64, n: u64) -> bool
     ensures { λ r. ⌜ r ≡ leb (m * n) (2 ^ 60) ⌝ }
 {
-    if m <= 1073741824 && n <= 1073741824 {
-        return true;
-    }
     if n == 0 {
         return true;
     }
     m <= LIMIT / n
 }
 
-// The product if it is within the limit; otherwise the first number past the limit, on the product's side.
+// The product if it is within the limit; otherwise the first number past the limit, on the product's side. Short factors are tested first, since a division
+// takes longer than all the rest, and some compilers begin it before they know that it is needed.
 fn times(a: i64, b: i64) -> i64
     requires { ⌜ natAbs a ≤ 2 ^ 60 ⌝ ∗ ⌜ natAbs b ≤ 2 ^ 60 ⌝ }
     ensures { λ r. ⌜ r ≡ clampOf (a *ℤ b) ⌝ }
 {
+    if is_short(a) && is_short(b) {
+        return a * b;
+    }
     if is_small_product(magnitude(a), magnitude(b)) {
         return a * b;
     }
@@ -81,16 +93,6 @@ fn greater(a: i64, b: i64) -> i64
     ensures { λ r. ⌜ r ≡ greaterOf a b ⌝ }
 {
     if a <= b { b } else { a }
-}
-
-// From the least of four numbers to the greatest.
-fn span(p: i64, q: i64, r: i64, s: i64) -> Interval
-    ensures { λ i. ⌜ i ≡ span p q r s ⌝ }
-{
-    Interval {
-        low: lesser(lesser(p, q), lesser(r, s)),
-        high: greater(greater(p, q), greater(r, s)),
-    }
 }
 
 impl Interval {
@@ -129,15 +131,103 @@ impl Interval {
         Interval { low, high }.limited()
     }
 
+    // The same two ends, the lesser one first.
+    fn ordered(self) -> Interval
+        ensures { λ r. ⌜ r ≡ orderedOf self ⌝ }
+    {
+        if self.low <= self.high {
+            return self;
+        }
+        Interval {
+            low: self.high,
+            high: self.low,
+        }
+    }
+
+    // Whether zero lies strictly inside.
+    fn is_across(self) -> bool
+        ensures { λ r. ⌜ r ≡ isAcross self ⌝ }
+    {
+        self.low < 0 && 0 < self.high
+    }
+
+    // Whether it does in both operands.
+    fn both_across(self, other: Interval) -> bool
+        ensures { λ r. ⌜ r ≡ bothAcross self other ⌝ }
+    {
+        self.is_across() && other.is_across()
+    }
+
+    // The end that is this operand's factor in the low end of the product.
+    fn least_factor(self, other: Interval) -> i64
+        ensures { λ r. ⌜ r ≡ leastFactor self other ⌝ }
+    {
+        if 0 <= other.low {
+            return self.low;
+        }
+        if other.high <= 0 {
+            return self.high;
+        }
+        if self.high <= 0 {
+            return self.low;
+        }
+        self.high
+    }
+
+    // The end that is this operand's factor in the high end of the product.
+    fn greatest_factor(self, other: Interval) -> i64
+        ensures { λ r. ⌜ r ≡ greatestFactor self other ⌝ }
+    {
+        if 0 <= other.low {
+            return self.high;
+        }
+        if other.high <= 0 {
+            return self.low;
+        }
+        if 0 <= self.low {
+            return self.high;
+        }
+        self.low
+    }
+
+    // The product, clamped, of two operands of which one does not have zero strictly inside: two products of ends.
+    fn two_corners(self, other: Interval) -> Interval
+        requires { ⌜ OrderedEnds self ⌝ ∗ ⌜ OrderedEnds other ⌝ ∗ ⌜ bothAcross self other ≡ false ⌝ }
+        ensures { λ r. ⌜ r ≡ clamped (product self other) ⌝ }
+    {
+        Interval {
+            low: times(self.least_factor(other), other.least_factor(self)),
+            high: times(self.greatest_factor(other), other.greatest_factor(self)),
+        }
+    }
+
+    // The product, clamped, of two operands that both have zero strictly inside: four products of ends, two of which are negative and two positive.
+    fn four_corners(self, other: Interval) -> Interval
+        requires { ⌜ OrderedEnds self ⌝ ∗ ⌜ OrderedEnds other ⌝ ∗ ⌜ bothAcross self other ≡ true ⌝ }
+        ensures { λ r. ⌜ r ≡ clamped (product self other) ⌝ }
+    {
+        Interval {
+            low: lesser(times(self.low, other.high), times(self.high, other.low)),
+            high: greater(times(self.low, other.low), times(self.high, other.high)),
+        }
+    }
+
+    // The product, clamped, by the signs of the operands.
+    fn corners(self, other: Interval) -> Interval
+        requires { ⌜ OrderedEnds self ⌝ ∗ ⌜ OrderedEnds other ⌝ }
+        ensures { λ r. ⌜ r ≡ clamped (product self other) ⌝ }
+    {
+        if self.both_across(other) {
+            return self.four_corners(other);
+        }
+        self.two_corners(other)
+    }
+
     pub fn product(self, other: Interval) -> Bounded
         requires { ⌜ SmallEnds self ⌝ ∗ ⌜ SmallEnds other ⌝ }
         ensures { λ r. ⌜ r ≡ boundedOf (product self other) ⌝ }
     {
-        let ac = times(self.low, other.low);
-        let ad = times(self.low, other.high);
-        let bc = times(self.high, other.low);
-        let bd = times(self.high, other.high);
-        span(ac, ad, bc, bd).limited()
+        self.ordered().corners(other.ordered()).limited()
     }
 
     pub fn square(self) -> Bounded

@@ -7,6 +7,7 @@ use crate::demand3_run::{self, Found};
 use crate::every_byte;
 use crate::group::{report, Group, Setup};
 use crate::lookups::{self, POINTS};
+use crate::products;
 use crate::relations;
 use crate::row_11;
 use crate::server::{Server, TRESPASSES};
@@ -44,7 +45,7 @@ impl Sizes {
     }
 }
 
-fn groups(sizes: &Sizes) -> [Group; 6] {
+fn groups(sizes: &Sizes) -> [Group; 7] {
     [
         Group {
             name: "checks",
@@ -75,6 +76,11 @@ fn groups(sizes: &Sizes) -> [Group; 6] {
             name: "damaged maps",
             make: every_byte::maps,
             cases: every_byte::map_cases() + sizes.damaged(),
+        },
+        Group {
+            name: "products",
+            make: products::any,
+            cases: products::cases(),
         },
     ]
 }
@@ -193,7 +199,7 @@ fn codes_reached(run: &mut Run) -> Result<(), String> {
 /// The library's builds are those of document 01's table with row 11 too, and the row refuses none. A lower limit,
 /// by which it does, is noticed.
 fn row_11(run: &mut Run) -> Result<(), String> {
-    let [_, builds, _, _, damaged, _] = groups(run.sizes);
+    let [_, builds, _, _, damaged, ..] = groups(run.sizes);
     let [all, lower] = row_11::run(run.setup, [builds, damaged])?;
     match lower.different {
         Some((group, number)) => println!("    a limit of 2^60 - 1: case {number} of {group}"),

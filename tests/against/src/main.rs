@@ -23,6 +23,7 @@ mod lookups;
 mod maker;
 mod maps;
 mod plan;
+mod products;
 mod random;
 mod relations;
 mod rooms;

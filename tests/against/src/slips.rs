@@ -28,13 +28,19 @@ const OPENING: Make = alone::open;
 const SHEETS: Make = every_byte::damaged_sheet;
 const MAPS: Make = every_byte::damaged_map;
 
-const OF_BUILDING: [(&str, Make, Wrong); 15] = [
+const OF_BUILDING: [(&str, Make, Wrong); 17] = [
     ("corners sampled", BUILDING, |c| coloured(c, &corners)),
     ("[0, 2] is Out", BUILDING, |c| coloured(c, &zero_out)),
     ("[-2, 0] is undecided", BUILDING, |c| {
         coloured(c, &zero_undecided)
     }),
     ("a square as a product", BUILDING, square_as_product),
+    ("a product without its signs", BUILDING, |c| {
+        coloured(c, &signs_ignored)
+    }),
+    ("two of four products left out", BUILDING, |c| {
+        coloured(c, &two_left_out)
+    }),
     ("all faces of the sheet counted", BUILDING, |c| {
         coloured(c, &all_faces)
     }),

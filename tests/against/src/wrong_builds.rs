@@ -2,7 +2,7 @@
 
 use crate::case::{Build, Case, Outcome};
 use crate::expect::{by_paper, of_map};
-use paper::bounds::{self, Interval, FURTHEST};
+use paper::bounds::{self, interval, Interval, FURTHEST};
 use paper::build::{map_by, Colouring};
 use paper::colour::{self, Colour, Rules, State, RULES};
 use paper::colour::{BLACK, GRAY, TERMINAL, TERMINAL_COMPLEMENT, WHITE};
@@ -111,6 +111,29 @@ fn by_bounds(sheet: &Sheet, cube: &Cube, other: fn(Interval) -> Interval) -> Col
     let bounds = bounds::over(sheet, cube);
     let bounds: Vec<_> = bounds.into_iter().map(|one| one.map(other)).collect();
     colour::class(colour::solid(&RULES, sheet, &bounds))
+}
+
+/// The paper's colour, by another rule of products.
+fn by_products(sheet: &Sheet, cube: &Cube, product: bounds::Rule) -> Colour {
+    let bounds = bounds::over_by(product, sheet, cube);
+    colour::class(colour::solid(&RULES, sheet, &bounds))
+}
+
+/// The low ends give the low end, and the high ends the high end, whatever their signs.
+pub fn signs_ignored(sheet: &Sheet, cube: &Cube) -> Colour {
+    by_products(sheet, cube, |a, b| interval(a.low * b.low, a.high * b.high))
+}
+
+/// Where both operands have zero inside, two of the four products are left out.
+pub fn two_left_out(sheet: &Sheet, cube: &Cube) -> Colour {
+    by_products(sheet, cube, |a, b| {
+        let across = |of: Interval| of.low < 0 && 0 < of.high;
+        if across(a) && across(b) {
+            interval(a.high * b.low, a.low * b.low)
+        } else {
+            a.product(b)
+        }
+    })
 }
 
 pub fn zero_out(sheet: &Sheet, cube: &Cube) -> Colour {

@@ -60,8 +60,16 @@ impl Interval {
     }
 }
 
+/// The rule of products. It is a parameter, so that a test can take a wrong one.
+pub type Rule = fn(Interval, Interval) -> Interval;
+
 /// The bounds of a record over a closed cube, from those of the records before it; None for a logical one.
-fn of_record(record: &Record, earlier: &[Option<Interval>], cube: &Cube) -> Option<Interval> {
+fn of_record(
+    record: &Record,
+    earlier: &[Option<Interval>],
+    cube: &Cube,
+    product: Rule,
+) -> Option<Interval> {
     let of = |a: usize| earlier[a].expect("an operand is arithmetic");
     let along = |axis: usize| interval(cube.low[axis], cube.high(axis));
     match *record {
@@ -71,7 +79,7 @@ fn of_record(record: &Record, earlier: &[Option<Interval>], cube: &Cube) -> Opti
         Z => Some(along(2)),
         Sum(a, b) => Some(of(a).sum(of(b))),
         Difference(a, b) => Some(of(a).difference(of(b))),
-        Product(a, b) => Some(of(a).product(of(b))),
+        Product(a, b) => Some(product(of(a), of(b))),
         Square(a) => Some(of(a).square()),
         Face(_) | Both(..) | Either(..) | Complement(_) => None,
     }
@@ -80,9 +88,13 @@ fn of_record(record: &Record, earlier: &[Option<Interval>], cube: &Cube) -> Opti
 /// The bounds of all records over a closed cube, None for a logical one. They are exact if the cube's root is
 /// within the limit: over a smaller cube they lie inside those over the root.
 pub fn over(sheet: &Sheet, cube: &Cube) -> Vec<Option<Interval>> {
+    over_by(Interval::product, sheet, cube)
+}
+
+pub fn over_by(product: Rule, sheet: &Sheet, cube: &Cube) -> Vec<Option<Interval>> {
     let mut all = Vec::with_capacity(sheet.records.len());
     for record in &sheet.records {
-        all.push(of_record(record, &all, cube));
+        all.push(of_record(record, &all, cube, product));
     }
     all
 }
@@ -92,7 +104,7 @@ pub fn over(sheet: &Sheet, cube: &Cube) -> Vec<Option<Interval>> {
 pub fn first_past(furthest: i128, sheet: &Sheet, cube: &Cube) -> Option<usize> {
     let mut all = Vec::with_capacity(sheet.records.len());
     sheet.records.iter().position(|record| {
-        let bounds = of_record(record, &all, cube);
+        let bounds = of_record(record, &all, cube, Interval::product);
         all.push(bounds);
         bounds.is_some_and(|of| of.passes(furthest))
     })

@@ -1,20 +1,17 @@
 -- `interval::is_small_product` meets its contract.
 use borrow.Author.Needs.{needs}
-use Rattle.interval.proofs.Products.{product-halves, product-zero, product-quotient}
+use Rattle.interval.proofs.Products.{product-zero, product-quotient}
 use Rattle.interval.proofs.is_small_product.Statement.{statement}
 use Rattle.interval.proofs.is_small_product.Tie as tie
 
 returns : tie.Need-returns
-returns c = search (needs, product-halves)
-
-returns-2 : tie.Need-returns-2
-returns-2 c = search (needs, product-zero)
+returns c = search (needs, product-zero)
 
 div-result : tie.Need-div-result
 div-result c = search needs
 
-returns-3 : tie.Need-returns-3
-returns-3 c = search (needs, product-quotient)
+returns-2 : tie.Need-returns-2
+returns-2 c = search (needs, product-quotient)
 
 pub is-small-product-spec : {M : Type 1} → statement M
-is-small-product-spec = tie.close (tie.spec returns returns-2 div-result returns-3)
+is-small-product-spec = tie.close (tie.spec returns div-result returns-2)

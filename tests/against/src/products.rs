@@ -1,0 +1,165 @@
+//! Products of two intervals of every sign, with ends at and next to 0, 2^30 and 2^60.
+//!
+//! A product's bounds cannot be read off a map, so numbers are added to it until an end of the sum is 2^60 or -2^60,
+//! which is accepted, or one further, which is refused by 7 with the record of that sum.
+
+use crate::builds::Made;
+use crate::case::{Build, Case, PLACINGS};
+use crate::maker::Maker;
+use crate::random::Random;
+use paper::bounds::{interval, Interval, FURTHEST};
+use paper::map::{HEADER, LEAF};
+use paper::root::Root;
+use paper::sheet::{self, Record::*};
+
+/// The ends of the operands. The product of 2^30 - 1 and 2^30 + 1 is 2^60 - 1, and that of the last two but one is
+/// 2^60 + 1.
+const ENDS: [i64; 13] = [
+    -(1 << 60),
+    -4_562_284_561,
+    -(1 << 30) - 1,
+    -(1 << 30),
+    -1,
+    0,
+    1,
+    (1 << 30) - 1,
+    1 << 30,
+    (1 << 30) + 1,
+    252_707_057,
+    4_562_284_561,
+    1 << 60,
+];
+
+/// Both ends accepted at the limit, the high end refused past it, and the low end.
+const PROBES: u64 = 3;
+
+/// The sign cases of two operands: above zero, below zero, or across it.
+const SIGNS: [[&str; 3]; 3] = [
+    [
+        "product: above by above",
+        "product: above by below",
+        "product: above by across",
+    ],
+    [
+        "product: below by above",
+        "product: below by below",
+        "product: below by across",
+    ],
+    [
+        "product: across by above",
+        "product: across by below",
+        "product: across by across",
+    ],
+];
+
+/// Every interval between two ends, from each end to itself too.
+fn operands() -> Vec<[i64; 2]> {
+    let mut ends = ENDS;
+    ends.sort();
+    let from = |i: usize| ends[i..].iter().map(move |&b| [ends[i], b]);
+    (0..ends.len()).flat_map(from).collect()
+}
+
+/// The number of cases: each pair of operands with each probe.
+pub fn cases() -> u64 {
+    (operands().len() as u64).pow(2) * PROBES
+}
+
+/// The build with a given case number. The root is a cube of side 1 at the origin, so each coordinate has the bounds
+/// [0, 1].
+pub fn any(number: u64, random: &mut Random) -> Made {
+    let all = operands();
+    let (pair, probe) = ((number / PROBES) as usize, number % PROBES);
+    let [first, second] = [all[pair / all.len() % all.len()], all[pair % all.len()]];
+    let mut maker = Maker::default();
+    let (a, b) = (operand(&mut maker, first), operand(&mut maker, second));
+    let product = maker.add(Product(a, b));
+    let bounds = exact(first).product(exact(second));
+    if !bounds.passes(FURTHEST) {
+        probed(&mut maker, product, bounds, probe);
+    }
+    let solid = maker.add(Face(product));
+    let build = Build {
+        placing: random.below(PLACINGS) as u8,
+        sheet: sheet::write(&maker.with_solid(solid)),
+        root: Root {
+            low: [0; 3],
+            k: 0,
+            d: 0,
+        },
+        out_len: HEADER + LEAF,
+        out_seed: random.word() | 1,
+    };
+    Made {
+        labels: vec![SIGNS[sign(first)][sign(second)]],
+        case: Case::Build(build),
+    }
+}
+
+fn exact([low, high]: [i64; 2]) -> Interval {
+    interval(low, high)
+}
+
+fn sign([low, high]: [i64; 2]) -> usize {
+    match () {
+        _ if low >= 0 => 0,
+        _ if high <= 0 => 1,
+        _ => 2,
+    }
+}
+
+/// A record with these bounds.
+fn operand(maker: &mut Maker, [low, high]: [i64; 2]) -> usize {
+    if low == high {
+        return number(maker, low);
+    }
+    if low <= 0 && 0 <= high {
+        let (below, above) = (scaled(maker, 0, low), scaled(maker, 1, high));
+        return maker.add(Sum(below, above));
+    }
+    let (start, length) = (number(maker, low), scaled(maker, 2, high - low));
+    maker.add(Sum(start, length))
+}
+
+/// A number of up to 2^60 either way, from constants.
+fn number(maker: &mut Maker, value: i64) -> usize {
+    if i32::try_from(value).is_ok() {
+        return maker.constant(value);
+    }
+    let (high, unit) = (maker.constant(value >> 30), maker.constant(1 << 30));
+    let (high, low) = (
+        maker.add(Product(high, unit)),
+        maker.constant(value & ((1 << 30) - 1)),
+    );
+    maker.add(Sum(high, low))
+}
+
+/// A coordinate times a number.
+fn scaled(maker: &mut Maker, axis: usize, by: i64) -> usize {
+    let (along, factor) = (maker.axis(axis), number(maker, by));
+    maker.add(Product(along, factor))
+}
+
+/// Adds what brings an end of the product to the limit, or one past it.
+fn probed(maker: &mut Maker, product: usize, bounds: Interval, probe: u64) {
+    let (up, down) = (FURTHEST - bounds.high, -FURTHEST - bounds.low);
+    match probe {
+        0 => {
+            raised(maker, product, up);
+            raised(maker, product, down);
+        }
+        1 => raised(maker, product, up + 1),
+        _ => raised(maker, product, down - 1),
+    }
+}
+
+/// The record plus a number, which may be too large for one record: then it is added in two steps.
+fn raised(maker: &mut Maker, record: usize, by: i128) {
+    let first = by.clamp(-FURTHEST, FURTHEST);
+    let step = number(maker, first as i64);
+    let there = maker.add(Sum(record, step));
+    if first != by {
+        let rest = number(maker, (by - first) as i64);
+        maker.add(Sum(there, rest));
+    }
+}

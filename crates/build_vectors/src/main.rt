@@ -48,24 +48,32 @@ fn room_of(b: u8, buffer: &[u8]) -> usize
 fn answer(code: u32, number: u64, out: &[u8]) {
     vectors::answer(code, number);
     let size = if code == 0 { number as usize } else { 0 };
-    if held(out, size) {
+    show(out, size);
+    if is_filled(out, size) {
         let _kept = io::write_all(1, b" kept\n");
     } else {
         let _changed = io::write_all(1, b" CHANGED\n");
     }
 }
 
-// Writes the first n bytes, and returns whether all bytes after them still have the fill value.
-fn held(out: &[u8], n: usize) -> bool {
-    let mut kept = true;
+// Writes the first n bytes.
+fn show(out: &[u8], n: usize) {
     for i in 0..out.len() {
-        if i < n {
-            byte(out[i]);
-        } else if out[i] != FILLED {
-            kept = false;
+        if n <= i {
+            return;
+        }
+        byte(out[i]);
+    }
+}
+
+// Whether all bytes from the n-th on still have the fill value.
+fn is_filled(out: &[u8], n: usize) -> bool {
+    for i in n..out.len() {
+        if out[i] != FILLED {
+            return false;
         }
     }
-    kept
+    true
 }
 
 fn byte(b: u8) {

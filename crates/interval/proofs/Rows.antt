@@ -1,6 +1,6 @@
 -- Worked rows of the rules and of the limit, each by computation: the paper's, and those at an edge.
 use mathlib.Core.Path.{_≡_, refl}
-use Prim.Native.Nat.{ℕ, _+_, _^_}
+use Prim.Native.Nat.{ℕ, _+_, _-_, _^_}
 use lib.IntN.{ℤ, pos, negℤ}
 use Rattle.integers.specs.Least.{lesserOf, greaterOf}
 use Rattle.interval.specs.Rules.{from, only, span, sum, difference, product, square}
@@ -17,7 +17,16 @@ record RuleRows : Type 0 where
   product-of-difference : product (from (pos 4) (pos 6)) (difference (only (pos 10)) (from (pos 4) (pos 6))) ≡ from (pos 16) (pos 36)
   product-above-zero : product (from (pos 2) (pos 3)) (from (pos 4) (pos 5)) ≡ from (pos 8) (pos 15)
   product-below-zero : product (from (minus 3) (minus 2)) (from (minus 5) (minus 4)) ≡ from (pos 8) (pos 15)
+  product-above-below : product (from (pos 2) (pos 3)) (from (minus 5) (minus 4)) ≡ from (minus 15) (minus 8)
+  product-below-above : product (from (minus 3) (minus 2)) (from (pos 4) (pos 5)) ≡ from (minus 15) (minus 8)
+  product-above-across : product (from (pos 2) (pos 3)) (from (minus 4) (pos 5)) ≡ from (minus 12) (pos 15)
+  product-below-across : product (from (minus 3) (minus 2)) (from (minus 4) (pos 5)) ≡ from (minus 15) (pos 12)
+  product-across-above : product (from (minus 2) (pos 3)) (from (pos 4) (pos 5)) ≡ from (minus 10) (pos 15)
+  product-across-below : product (from (minus 2) (pos 3)) (from (minus 5) (minus 4)) ≡ from (minus 15) (pos 10)
   product-from-zero : product (from (pos 0) (pos 3)) (from (minus 4) (pos 5)) ≡ from (minus 12) (pos 15)
+  product-to-zero : product (from (minus 3) (pos 0)) (from (minus 4) (pos 5)) ≡ from (minus 15) (pos 12)
+  product-of-zero : product (only (pos 0)) (from (minus 4) (pos 5)) ≡ only (pos 0)
+  product-of-one-number : product (from (minus 4) (pos 5)) (only (minus 3)) ≡ from (minus 15) (pos 12)
   product-across-zero : product (from (minus 2) (pos 3)) (from (minus 7) (pos 5)) ≡ from (minus 21) (pos 15)
   -- the square of an interval is narrower than its product by itself
   product-by-itself : product (from (minus 3) (pos 2)) (from (minus 3) (pos 2)) ≡ from (minus 6) (pos 9)
@@ -35,7 +44,16 @@ rule-rows = record {
   product-of-difference = refl;
   product-above-zero = refl;
   product-below-zero = refl;
+  product-above-below = refl;
+  product-below-above = refl;
+  product-above-across = refl;
+  product-below-across = refl;
+  product-across-above = refl;
+  product-across-below = refl;
   product-from-zero = refl;
+  product-to-zero = refl;
+  product-of-zero = refl;
+  product-of-one-number = refl;
   product-across-zero = refl;
   product-by-itself = refl;
   square-across-zero = refl;
@@ -55,6 +73,13 @@ record LimitRows : Type 0 where
   square-past-limit : boundedOf (square (only (pos (2 ^ 30 + 1)))) ≡ Past
   product-to-limit : boundedOf (product (only (pos (2 ^ 40))) (only (pos (2 ^ 20)))) ≡ Within (only (pos (2 ^ 60)))
   product-past-limit : boundedOf (product (only (pos (2 ^ 40 + 1))) (only (pos (2 ^ 20)))) ≡ Past
+  -- (2^30 - 1)(2^30 + 1) = 2^60 - 1, and 4562284561 × 252707057 = 2^60 + 1
+  product-before-limit : boundedOf (product (only (pos (2 ^ 30 - 1))) (only (pos (2 ^ 30 + 1)))) ≡ Within (only (pos (2 ^ 60 - 1)))
+  product-past-by-one : boundedOf (product (only (pos 4562284561)) (only (pos 252707057))) ≡ Past
+  product-to-least : boundedOf (product (only (minus (2 ^ 30))) (only (pos (2 ^ 30)))) ≡ Within (only (minus (2 ^ 60)))
+  product-past-least-by-one : boundedOf (product (only (minus 4562284561)) (only (pos 252707057))) ≡ Past
+  across-to-limit : boundedOf (product (from (minus (2 ^ 30)) (pos (2 ^ 30))) (from (minus (2 ^ 30)) (pos (2 ^ 30)))) ≡ Within (from (minus (2 ^ 60)) (pos (2 ^ 60)))
+  across-past-limit : boundedOf (product (from (minus (2 ^ 30)) (pos 4562284561)) (from (minus (2 ^ 20)) (pos 252707057))) ≡ Past
   zero-of-limit : boundedOf (product (only (pos 0)) (only (pos (2 ^ 60)))) ≡ Within (only (pos 0))
   turned-limit : boundedOf (product (only (minus (2 ^ 60))) (only (minus 1))) ≡ Within (only (pos (2 ^ 60)))
 
@@ -70,6 +95,12 @@ limit-rows = record {
   square-past-limit = refl;
   product-to-limit = refl;
   product-past-limit = refl;
+  product-before-limit = refl;
+  product-past-by-one = refl;
+  product-to-least = refl;
+  product-past-least-by-one = refl;
+  across-to-limit = refl;
+  across-past-limit = refl;
   zero-of-limit = refl;
   turned-limit = refl;
 }

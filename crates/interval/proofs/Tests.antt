@@ -54,18 +54,9 @@ and-first b x y e t = rw (sym e, t)
 pub and-second : (b d x y : Bool) → b ≡ x → b ≡ true → d ≡ y → d ≡ (x && y)
 and-second b d x y e t f = rw (sym e, t) f
 
--- ---- is_within: b and d are what the two calls of `is_small` returned
-module _ (i : Interval) (b : Bool) (fl : SFits w64 (i .low)) (eb : b ≡ isSmall (toZ w64 (ofZ w64 (i .low)))) where
-  low-is : isSmall (i .low) ≡ b
-  low-is = rw (toZ-ofZ fl) at (sym eb)
-
-  pub within-low-past : b ≡ false → b ≡ isWithin i
-  unfolding isWithin
-  within-low-past s = rw (low-is, s)
-
-  pub within-high : (d : Bool) → SFits w64 (i .high) → d ≡ isSmall (toZ w64 (ofZ w64 (i .high))) → b ≡ true → d ≡ isWithin i
-  unfolding isWithin
-  within-high d fh ed s = rw (low-is, s) (rw (toZ-ofZ fh) at ed)
+-- ---- is_within: b is what a call of `is_small` returned
+pub small-told : (b : Bool) (z : ℤ) → SFits w64 z → b ≡ isSmall (toZ w64 (ofZ w64 z)) → b ≡ isSmall z
+small-told b z f e = rw (toZ-ofZ f) at e
 
 -- ---- limited
 module _ (i : Interval) (b : Bool) (e : b ≡ isWithin i) where

@@ -6,7 +6,7 @@ use crate::group::{Group, Make};
 use crate::wrong_builds::*;
 use crate::wrong_lookups::*;
 use crate::wrong_reads::*;
-use crate::{alone, builds, every_byte, lookups};
+use crate::{alone, builds, every_byte, lookups, products};
 
 /// A wrong rule: its description, the cases that show it, and the oracle that follows it.
 pub struct Slip {
@@ -21,6 +21,7 @@ const CASES: u64 = 6_000;
 
 /// Build 0 has one of the largest maps, which no wrong rule needs.
 const BUILDING: Make = |number, random| builds::any(number + 1, random);
+const MULTIPLYING: Make = products::any;
 const LOOKING: Make = lookups::any;
 const CHECKING: Make = alone::check;
 const OPENING: Make = alone::open;
@@ -35,12 +36,8 @@ const OF_BUILDING: [(&str, Make, Wrong); 17] = [
         coloured(c, &zero_undecided)
     }),
     ("a square as a product", BUILDING, square_as_product),
-    ("a product without its signs", BUILDING, |c| {
-        coloured(c, &signs_ignored)
-    }),
-    ("two of four products left out", BUILDING, |c| {
-        coloured(c, &two_left_out)
-    }),
+    ("a product without its signs", MULTIPLYING, signs_ignored),
+    ("two of four products left out", MULTIPLYING, two_left_out),
     ("all faces of the sheet counted", BUILDING, |c| {
         coloured(c, &all_faces)
     }),

@@ -7,6 +7,7 @@ use paper::build::{map_by, Colouring};
 use paper::colour::{self, Colour, Rules, State, RULES};
 use paper::colour::{BLACK, GRAY, TERMINAL, TERMINAL_COMPLEMENT, WHITE};
 use paper::fractions::{Point, Values};
+use paper::map::{self, Leaf};
 use paper::root::{Cube, Root};
 use paper::sheet::{self, Record, Sheet};
 use paper::{reply, Refusal, Reply};
@@ -87,6 +88,36 @@ pub fn kinds_exchanged(case: &Case) -> Outcome {
     })
 }
 
+/// The paper's map of a root that is not split, by another rule of products.
+fn by_products(case: &Case, product: bounds::Rule) -> Outcome {
+    built(case, |sheet, root| {
+        let bounds = bounds::over_by(product, sheet, &root.cube());
+        let past = |of: &Option<Interval>| of.is_some_and(|of| of.passes(FURTHEST));
+        if let Some(record) = bounds.iter().position(past) {
+            return Err(reply(7, record));
+        }
+        let colour = colour::class(colour::solid(&RULES, sheet, &bounds));
+        Ok(map::write(root, &[Leaf { level: 0, colour }]))
+    })
+}
+
+/// The low ends give the low end, and the high ends the high end, whatever their signs.
+pub fn signs_ignored(case: &Case) -> Outcome {
+    by_products(case, |a, b| interval(a.low * b.low, a.high * b.high))
+}
+
+/// Where both operands have zero inside, two of the four products are left out.
+pub fn two_left_out(case: &Case) -> Outcome {
+    by_products(case, |a, b| {
+        let across = |of: Interval| of.low < 0 && 0 < of.high;
+        if across(a) && across(b) {
+            interval(a.high * b.low, a.low * b.low)
+        } else {
+            a.product(b)
+        }
+    })
+}
+
 pub fn z_reads_y(case: &Case) -> Outcome {
     of_records(case, |record| (*record == Record::Z).then_some(Record::Y))
 }
@@ -111,29 +142,6 @@ fn by_bounds(sheet: &Sheet, cube: &Cube, other: fn(Interval) -> Interval) -> Col
     let bounds = bounds::over(sheet, cube);
     let bounds: Vec<_> = bounds.into_iter().map(|one| one.map(other)).collect();
     colour::class(colour::solid(&RULES, sheet, &bounds))
-}
-
-/// The paper's colour, by another rule of products.
-fn by_products(sheet: &Sheet, cube: &Cube, product: bounds::Rule) -> Colour {
-    let bounds = bounds::over_by(product, sheet, cube);
-    colour::class(colour::solid(&RULES, sheet, &bounds))
-}
-
-/// The low ends give the low end, and the high ends the high end, whatever their signs.
-pub fn signs_ignored(sheet: &Sheet, cube: &Cube) -> Colour {
-    by_products(sheet, cube, |a, b| interval(a.low * b.low, a.high * b.high))
-}
-
-/// Where both operands have zero inside, two of the four products are left out.
-pub fn two_left_out(sheet: &Sheet, cube: &Cube) -> Colour {
-    by_products(sheet, cube, |a, b| {
-        let across = |of: Interval| of.low < 0 && 0 < of.high;
-        if across(a) && across(b) {
-            interval(a.high * b.low, a.low * b.low)
-        } else {
-            a.product(b)
-        }
-    })
 }
 
 pub fn zero_out(sheet: &Sheet, cube: &Cube) -> Colour {

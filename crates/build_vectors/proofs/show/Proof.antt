@@ -1,26 +1,26 @@
--- `build_vectors::held` is safe and ends.
+-- `build_vectors::show` is safe and ends.
 use borrow.Author.Needs.{needs}
 use Prim.Native.Nat.{_-_, _≤_}
-use Rattle.build_vectors.proofs.held.Statement.{statement}
-use Rattle.build_vectors.proofs.held.Tie as tie
+use Rattle.build_vectors.proofs.show.Statement.{statement}
+use Rattle.build_vectors.proofs.show.Tie as tie
 
 abbrev Inv-loop : tie.InvT-loop
-Inv-loop out n kept₀ i₀ i-end kept i = i ≤ i-end
+Inv-loop out n i₀ i-end i = i ≤ i-end
 
 abbrev μ-loop : tie.MeasureT-loop
-μ-loop out n kept₀ i₀ i-end kept i = i-end - i
+μ-loop out n i₀ i-end i = i-end - i
 
 loop-holds : tie.Need-loop-holds Inv-loop μ-loop
 loop-holds c = search needs
+
+returns : tie.Need-returns Inv-loop μ-loop
+returns c = search needs
 
 shared-slice-read-byte : tie.Need-shared-slice-read-byte Inv-loop μ-loop
 shared-slice-read-byte c = search needs
 
 byte-requires : tie.Need-byte-requires Inv-loop μ-loop
 byte-requires c κs = search needs
-
-shared-slice-read-if2 : tie.Need-shared-slice-read-if2 Inv-loop μ-loop
-shared-slice-read-if2 c = search needs
 
 add-i : tie.Need-add-i Inv-loop μ-loop
 add-i c = search needs
@@ -31,20 +31,20 @@ loop-less c = search needs
 loop-again : tie.Need-loop-again Inv-loop μ-loop
 loop-again c = search needs
 
-returns : tie.Need-returns Inv-loop μ-loop
-returns c = search needs
+returns-2 : tie.Need-returns-2 Inv-loop μ-loop
+returns-2 c = search needs
 
-pub held-spec : {M : Type 1} → statement M
-held-spec =
+pub show-spec : {M : Type 1} → statement M
+show-spec =
     tie.close
     (tie.spec
     Inv-loop
     μ-loop
     loop-holds
+    returns
     shared-slice-read-byte
     byte-requires
-    shared-slice-read-if2
     add-i
     loop-less
     loop-again
-    returns)
+    returns-2)

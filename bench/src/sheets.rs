@@ -140,10 +140,10 @@ fn corridor(records: usize, k: u8, d: u8) -> Case {
     finished(s, records, from_origin(k, d))
 }
 
-/// As many vaults as fit, under a roof that takes the rest of the `records` records, over a root with the origin at its centre.
+/// A floor with as many vaults as fit, under a roof that takes the rest of the `records` records, over a root with the origin at its centre.
 fn vaults(records: usize, k: u8, d: u8) -> Case {
     let mut s = Sheet::default();
-    let mut solid = space(&mut s, 0);
+    let mut solid = s.slab(2, -450, -430);
     let mut next = 0;
     while s.count() + RECORDS_OF_A_VAULT + LEAST_OF_A_ROOF <= records {
         solid = vault(&mut s, next, solid);

@@ -1,5 +1,4 @@
 -- How a product is worked out. Only inner contracts cite this.
-use mathlib.Core.Path.{_≡_}
 use mathlib.Core.Bool.{Bool, cond, _&&_}
 use Prim.Native.Nat.{_+_, _≤_, _^_}
 use lib.IntN.{ℤ, pos, negℤ, natAbs}

@@ -20,8 +20,8 @@ pub product-swapped : (i j : Interval) → product (from (i .high) (i .low)) j �
 unfolding product span
 product-swapped i j = ap₂ from (lesser-commutes _ _) (greater-commutes _ _)
 
--- ---- two numbers times a factor: the lesser and the greater of the two products
--- two numbers of which the first is the lesser
+-- ---- two products with a common factor are in order, by the sign of the factor
+-- the lesser and the greater of p and q
 abbrev Ends : ℤ → ℤ → ℤ → ℤ → Type 0
 Ends p q low high = (lesserOf p q ≡ low) × (greaterOf p q ≡ high)
 

@@ -158,7 +158,8 @@ impl Interval {
         self.is_across() && other.is_across()
     }
 
-    // The end that is this operand's factor in the low end of the product.
+    // The end that is this operand's factor in the low end of the product, if zero is not strictly inside both: by the sign of the other operand, and
+    // by its own if the other has zero strictly inside.
     fn least_factor(self, other: Interval) -> i64
         ensures { λ r. ⌜ r ≡ leastFactor self other ⌝ }
     {
@@ -174,7 +175,7 @@ impl Interval {
         self.high
     }
 
-    // The end that is this operand's factor in the high end of the product.
+    // The same for the high end.
     fn greatest_factor(self, other: Interval) -> i64
         ensures { λ r. ⌜ r ≡ greatestFactor self other ⌝ }
     {

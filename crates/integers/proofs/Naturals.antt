@@ -74,7 +74,8 @@ neg-is (pos zero) = (refl, refl)
 neg-is (pos (suc a)) = (refl, refl)
 neg-is (negsuc a) = (refl, refl)
 
-cond-ind : (c : Bool) (x y : ℤ) (P : ℤ → Type 0) → (T c → P x) → (T (not c) → P y) → P (cond c x y)
+-- what holds of each number if its test does holds of the one that is chosen
+pub cond-ind : (c : Bool) (x y : ℤ) (P : ℤ → Type 0) → (T c → P x) → (T (not c) → P y) → P (cond c x y)
 cond-ind true x y P f g = f tt
 cond-ind false x y P f g = g tt
 

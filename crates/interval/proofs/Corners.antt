@@ -10,7 +10,7 @@ use mir.Syntax.{w64}
 use mir.Val.{SFits, toZ, ofZ}
 use mir.Facts.{toZ-ofZ}
 use Rattle.integers.specs.Least.{lesserOf, greaterOf}
-use Rattle.integers.proofs.Naturals.{ints}
+use Rattle.integers.proofs.Naturals.{ints, cond-ind}
 use Rattle.integers.proofs.Order.{≤-trans, ≤-both, by-test, T-true, leZ-true, leZ-false, leZ-above, ltZ-true}
 use Rattle.integers.proofs.Least.{lesser-kept, greater-kept}
 use Rattle.interval.specs.Rules.{from, product}
@@ -83,29 +83,34 @@ module _ (i j : Interval) (oi : i .low ≤ℤ i .high) (oj : j .low ≤ℤ j .hi
       (λ t u. absurd (true≢false (sym (rw (across-test i s v, across-test j t u)) ∙ n))))
 
 -- a factor is an end, so it is within the limit
-module _ (P : ℤ → Type 0) where
-  cond-any : (t : Bool) (x y : ℤ) → P x → P y → P (cond t x y)
-  cond-any t x y hx hy = by-test t (λ e. rw e hx) (λ e. rw e hy)
-
-  sign-any : (j : Interval) (x y z : ℤ) → P x → P y → P z → P (bySign j x y z)
-  unfolding bySign
-  sign-any j x y z hx hy hz = cond-any (leZ (pos 0) (j .low)) x _ hx (cond-any (leZ (j .high) (pos 0)) y z hy hz)
+sign-ind : (P : ℤ → Type 0) (j : Interval) (x y z : ℤ) → P x → P y → P z → P (bySign j x y z)
+unfolding bySign
+sign-ind P j x y z hx hy hz =
+    cond-ind (leZ (pos 0) (j .low)) x (cond (leZ (j .high) (pos 0)) y z) P (λ _. hx) (λ _. cond-ind (leZ (j .high) (pos 0)) y z P (λ _. hy) (λ _. hz))
 
 module _ (r : ℤ) (i j : Interval) (h : OrderedEnds i) where
   abbrev Small : ℤ → Type 0
   Small z = natAbs z ≤ 2 ^ 60
 
+  -- one of the two ends, whichever a test chooses
+  either-end : (t : Bool) (x y : ℤ) → Small x → Small y → Small (cond t x y)
+  either-end t x y hx hy = cond-ind t x y Small (λ _. hx) (λ _. hy)
+
   pub least-small : r ≡ leastFactor i j → natAbs r ≤ 2 ^ 60
   unfolding leastFactor
   least-small e =
       let t = leZ (i .high) (pos 0) in
-      rw e (sign-any Small j (i .low) (i .high) (cond t (i .low) (i .high)) (h .low) (h .high) (cond-any Small t (i .low) (i .high) (h .low) (h .high)))
+      let low = h .small .low in
+      let high = h .small .high in
+      rw e (sign-ind Small j (i .low) (i .high) (cond t (i .low) (i .high)) low high (either-end t (i .low) (i .high) low high))
 
   pub greatest-small : r ≡ greatestFactor i j → natAbs r ≤ 2 ^ 60
   unfolding greatestFactor
   greatest-small e =
       let t = leZ (pos 0) (i .low) in
-      rw e (sign-any Small j (i .high) (i .low) (cond t (i .high) (i .low)) (h .high) (h .low) (cond-any Small t (i .high) (i .low) (h .high) (h .low)))
+      let low = h .small .low in
+      let high = h .small .high in
+      rw e (sign-ind Small j (i .high) (i .low) (cond t (i .high) (i .low)) high low (either-end t (i .high) (i .low) high low))
 
 pub read-small : (r : ℤ) → natAbs r ≤ 2 ^ 60 → natAbs (toZ w64 (ofZ w64 r)) ≤ 2 ^ 60
 read-small r h = rw (limit-back r h) h
@@ -131,8 +136,8 @@ module _ (i k : Interval) (h : SmallEnds i) (e : k ≡ orderedOf i) where
   pub ordered-ends : OrderedEnds k
   unfolding orderedOf
   ordered-ends =
-      by-test (leZ (i .low) (i .high)) (λ t. rw (e, t) (record { low = h .low; high = h .high; ordered = leZ-true (i .low) (i .high) t }))
-      (λ t. rw (e, t) (record { low = h .high; high = h .low; ordered = leZ-false (i .low) (i .high) t }))
+      by-test (leZ (i .low) (i .high)) (λ t. rw (e, t) (record { small = h; ordered = leZ-true (i .low) (i .high) t }))
+      (λ t. rw (e, t) (record { small = record { low = h .high; high = h .low }; ordered = leZ-false (i .low) (i .high) t }))
 
 product-ordered : (i j : Interval) → product (orderedOf i) j ≡ product i j
 unfolding orderedOf

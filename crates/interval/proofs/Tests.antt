@@ -2,11 +2,11 @@
 -- from its bits.
 use mathlib.Core.Path.{_≡_, refl, sym, ap₂, _∙_}
 use mathlib.Core.Bool.{Bool, true, false, cond, _&&_}
-use Prim.Native.Nat.{ℕ, suc, _-_, _<_, _^_}
+use Prim.Native.Nat.{ℕ, suc, _<_, _^_}
 use native.Mathlib.Omega.{arith}
 use borrow.Author.Tests.{leb-true, leb-false, le-leb, lt-leb}
 use lib.Dec.{leb}
-use lib.IntN.{ℤ, pos, negsuc, negℤ, natAbs}
+use lib.IntN.{ℤ, pos, negsuc, natAbs}
 use lib.Signed.{mag, leZ}
 use mir.Syntax.{w64}
 use mir.Val.{SFits, toZ, ofZ}
@@ -28,20 +28,12 @@ module _ (n : ℕ) where
   below (pos m) t = cc
   below (negsuc m) t = t ∙ sym (lt-leb (suc m) (suc n) (omega (arith, leb-false)))
 
-module _ (x : ℤ) (f : SFits w64 x) where
-  pub short-at-least : leZ (negℤ (pos (2 ^ 30))) (toZ w64 (ofZ w64 x)) ≡ true → leZ (toZ w64 (ofZ w64 x)) (pos (2 ^ 30)) ≡ leb (natAbs x) (2 ^ 30)
-  short-at-least t = rw (toZ-ofZ f) (at-least (2 ^ 30 - 1) x (rw (toZ-ofZ f) at t))
+  module _ (x : ℤ) (f : SFits w64 x) where
+    pub limit-at-least : leZ (negsuc n) (toZ w64 (ofZ w64 x)) ≡ true → leZ (toZ w64 (ofZ w64 x)) (pos (suc n)) ≡ leb (natAbs x) (suc n)
+    limit-at-least t = rw (toZ-ofZ f) (at-least x (rw (toZ-ofZ f) at t))
 
-  pub short-below : leZ (negℤ (pos (2 ^ 30))) (toZ w64 (ofZ w64 x)) ≡ false → leZ (negℤ (pos (2 ^ 30))) (toZ w64 (ofZ w64 x)) ≡ leb (natAbs x) (2 ^ 30)
-  short-below t = rw (toZ-ofZ f) (below (2 ^ 30 - 1) x (rw (toZ-ofZ f) at t))
-
-  pub small-at-least : leZ (negℤ (pos (2 ^ 60))) (toZ w64 (ofZ w64 x)) ≡ true → leZ (toZ w64 (ofZ w64 x)) (pos (2 ^ 60)) ≡ isSmall x
-  unfolding isSmall
-  small-at-least t = rw (toZ-ofZ f) (at-least (2 ^ 60 - 1) x (rw (toZ-ofZ f) at t))
-
-  pub small-below : leZ (negℤ (pos (2 ^ 60))) (toZ w64 (ofZ w64 x)) ≡ false → leZ (negℤ (pos (2 ^ 60))) (toZ w64 (ofZ w64 x)) ≡ isSmall x
-  unfolding isSmall
-  small-below t = rw (toZ-ofZ f) (below (2 ^ 60 - 1) x (rw (toZ-ofZ f) at t))
+    pub limit-below : leZ (negsuc n) (toZ w64 (ofZ w64 x)) ≡ false → leZ (negsuc n) (toZ w64 (ofZ w64 x)) ≡ leb (natAbs x) (suc n)
+    limit-below t = rw (toZ-ofZ f) (below x (rw (toZ-ofZ f) at t))
 
 -- ---- a test that a function makes: b is what it returned
 pub test-told : (b x t : Bool) → b ≡ x → b ≡ t → x ≡ t

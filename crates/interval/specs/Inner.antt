@@ -1,10 +1,10 @@
 -- How a product is worked out. Only inner contracts cite this.
 use mathlib.Core.Bool.{Bool, cond, _&&_}
-use Prim.Native.Nat.{_+_, _≤_, _^_}
-use lib.IntN.{ℤ, pos, negℤ, natAbs}
+use Prim.Native.Nat.{_+_, _^_}
+use lib.IntN.{ℤ, pos, negℤ}
 use lib.Signed.{nonNeg, leZ, ltZ, _≤ℤ_}
 use Rattle.interval.specs.Rules.{from}
-use Rattle.interval.specs.Limit.{isSmall}
+use Rattle.interval.specs.Limit.{SmallEnds, isSmall}
 use Rattle.interval.specs.declared.Interval.{Interval}
 
 -- the number if it is within the limit, otherwise the first number past the limit on its side
@@ -41,6 +41,5 @@ greatestFactor i j = bySign j (i .high) (i .low) (cond (leZ (pos 0) (i .low)) (i
 
 -- both ends are within the limit and in order
 pub record OrderedEnds (i : Interval) : Type 0 where
-  pub low : natAbs (i .low) ≤ 2 ^ 60
-  pub high : natAbs (i .high) ≤ 2 ^ 60
+  pub small : SmallEnds i
   pub ordered : i .low ≤ℤ i .high

@@ -11,6 +11,7 @@ use paper::bounds::{interval, Interval, FURTHEST};
 use paper::map::{HEADER, LEAF};
 use paper::root::Root;
 use paper::sheet::{self, Record::*};
+use std::sync::OnceLock;
 
 /// The ends of the operands. The product of 2^30 - 1 and 2^30 + 1 is 2^60 - 1, and that of the last two but one is
 /// 2^60 + 1.
@@ -60,17 +61,32 @@ fn operands() -> Vec<[i64; 2]> {
     (0..ends.len()).flat_map(from).collect()
 }
 
-/// The number of cases: each pair of operands with each probe.
+/// A pair of operands, and which ends of their product are probed.
+type Pair = ([i64; 2], [i64; 2], u64);
+
+/// Each pair of operands: with every probe if the product is within the limit, and otherwise once, since it is refused
+/// whatever is added to it.
+fn pairs() -> &'static [Pair] {
+    static PAIRS: OnceLock<Vec<Pair>> = OnceLock::new();
+    PAIRS.get_or_init(|| {
+        let all = operands();
+        let probes = |&first, &second| {
+            let past = exact(first).product(exact(second)).passes(FURTHEST);
+            (0..if past { 1 } else { PROBES }).map(move |probe| (first, second, probe))
+        };
+        let each = |first| all.iter().flat_map(move |second| probes(first, second));
+        all.iter().flat_map(each).collect()
+    })
+}
+
 pub fn cases() -> u64 {
-    (operands().len() as u64).pow(2) * PROBES
+    pairs().len() as u64
 }
 
 /// The build with a given case number. The root is a cube of side 1 at the origin, so each coordinate has the bounds
 /// [0, 1].
 pub fn any(number: u64, random: &mut Random) -> Made {
-    let all = operands();
-    let (pair, probe) = ((number / PROBES) as usize, number % PROBES);
-    let [first, second] = [all[pair / all.len() % all.len()], all[pair % all.len()]];
+    let (first, second, probe) = pairs()[number as usize % pairs().len()];
     let mut maker = Maker::default();
     let (a, b) = (operand(&mut maker, first), operand(&mut maker, second));
     let product = maker.add(Product(a, b));

@@ -1,6 +1,7 @@
 -- `interval::is_short` meets its contract.
 use borrow.Author.Needs.{needs}
-use Rattle.interval.proofs.Tests.{short-at-least, short-below}
+use Prim.Native.Nat.{_-_, _^_}
+use Rattle.interval.proofs.Tests.{limit-at-least, limit-below}
 use Rattle.interval.proofs.is_short.Statement.{statement}
 use Rattle.interval.proofs.is_short.Tie as tie
 
@@ -8,10 +9,10 @@ sub-if1 : tie.Need-sub-if1
 sub-if1 c = search needs
 
 returns : tie.Need-returns
-returns c = search (needs, short-at-least)
+returns c = search (needs, limit-at-least (2 ^ 30 - 1))
 
 returns-2 : tie.Need-returns-2
-returns-2 c = search (needs, short-below)
+returns-2 c = search (needs, limit-below (2 ^ 30 - 1))
 
 pub is-short-spec : {M : Type 1} → statement M
 is-short-spec = tie.close (tie.spec sub-if1 returns returns-2)

@@ -23,7 +23,7 @@
    dropped is not used again. So treat a code that you do not know as a refusal. While the major number is 0, a new minor number may also
    change a call, or the number that comes with a code: CHANGELOG.md says what to do. */
 #define ZONE_VERSION_MAJOR 0
-#define ZONE_VERSION_MINOR 3
+#define ZONE_VERSION_MINOR 4
 #define ZONE_VERSION (ZONE_VERSION_MAJOR * 1000 + ZONE_VERSION_MINOR)
 
 #ifdef __cplusplus
@@ -50,7 +50,8 @@ enum ZoneCode {
                      offset in the map, which is 0 for the length, 4 for the version, 5 for the root or the depth, the first byte of a bad
                      leaf, or the map's length if the leaves stop short */
     /* zone_build and zone_lookup. */
-    ZONE_OVER_ROOT = 7, /* a record's bounds over the root pass 2^60: the record's number */
+    ZONE_OVER_ROOT = 7, /* a record's bounds over the root pass 2^60: twice the record's number, plus 1 for the high end. ZONE_OVER_RECORD
+                           and ZONE_OVER_END take the number apart */
     /* zone_build. */
     ZONE_SHORT = 8, /* the buffer is shorter than the map: the number of bytes needed */
     /* zone_lookup. */
@@ -58,6 +59,21 @@ enum ZoneCode {
     /* 11 is never given. It was document 01's reply for a record whose bounds over a smaller cube pass 2^60, which no input brings about:
        such bounds lie inside the root's. The number is not used for anything else. */
 };
+
+/* Which end of a record's bounds lies outside -2^60 to 2^60: the low end if it does, on either side, otherwise the high end. It tells the
+   author of a sheet what to change:
+   - The high end alone: the record grows too large towards the far side of the root. Take a smaller root, or shift it so that its far side
+     is nearer to 0.
+   - The low end: the record runs too far below zero; or it is above 2^60 all over the root, and no root inside this one helps. Shrink the
+     coefficients, or shift the whole room towards 0. */
+enum ZoneEnd {
+    ZONE_LOW_END = 0,
+    ZONE_HIGH_END = 1
+};
+
+/* The record and the end, one of ZoneEnd, in the number of ZONE_OVER_ROOT. */
+#define ZONE_OVER_RECORD(number) ((number) / 2)
+#define ZONE_OVER_END(number) ((number) % 2)
 
 /* What zone_lookup returns with ZONE_DONE: where the point is. */
 enum ZoneAnswer {

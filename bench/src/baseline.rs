@@ -1,5 +1,5 @@
 //! The baseline for building: a plain program that evaluates every record at every cube, in one pass, into vectors.
-use crate::colour::{colour, Cube, Interval, State};
+use crate::colour::{colour, over_number, Cube, Interval, State};
 use crate::records::{parse, Record, Refusal};
 
 /// Where a map is built: the root's low corner, k and the depth.
@@ -40,11 +40,14 @@ struct Build<'a> {
     cubes: usize,
 }
 
-/// Tests the limit for all records over the root; the error is the first record that passes it.
-pub fn limited_over_root(records: &[Record], root: &Root) -> Result<(), usize> {
+/// Tests the limit for all records over the root; the error is the number of reply 7, for the first record that passes it.
+pub fn limited_over_root(records: &[Record], root: &Root) -> Result<(), u64> {
     let mut bounds = vec![Interval::default(); records.len()];
     let mut states = vec![State::default(); records.len()];
-    colour(records, &mut bounds, &mut states, &root.cube()).map(|_| ())
+    match colour(records, &mut bounds, &mut states, &root.cube()) {
+        Ok(_) => Ok(()),
+        Err(record) => Err(over_number(records, &bounds, record)),
+    }
 }
 
 /// Whether a point satisfies a face of the sheet. No record may pass the limit over the root that holds the point.
@@ -107,9 +110,9 @@ pub fn build(sheet: &[u8], root: &Root) -> Result<Map, Refusal> {
         map,
         cubes: 0,
     };
-    build
-        .add(root.cube())
-        .map_err(|record| (7, record as u64))?;
+    if let Err(record) = build.add(root.cube()) {
+        return Err((7, over_number(&records, &build.bounds, record)));
+    }
     let mut bytes = build.map;
     let following = bytes.len() as u32 - 4;
     bytes[..4].copy_from_slice(&following.to_be_bytes());
@@ -141,4 +144,54 @@ fn step_room() {
         Err((5, 0))
     );
     assert_eq!(build(&[0, 0], &root(0)).map(|map| map.bytes), Err((1, 0)));
+}
+
+/// A sheet over x and y from 0 to 1: record 3 is 2^60, record 5 is -2^60, and record 8 has the bounds [-2^60, 2^60].
+#[cfg(test)]
+fn at_the_limit() -> crate::drawing::Sheet {
+    let mut s = crate::drawing::Sheet::default();
+    let (x, y) = (s.coordinate(0), s.coordinate(1));
+    let half = s.constant(1 << 30);
+    let limit = s.record(8, &[half]);
+    let zero = s.constant(0);
+    let below = s.difference(zero, limit);
+    let (up, down) = (s.product(x, limit), s.product(y, below));
+    s.sum(up, down);
+    s
+}
+
+/// Which end of record 9 passes the limit, by the plain programs and by the library.
+#[test]
+fn the_end_past_the_limit() {
+    let root = Root {
+        corner: [0, 0, 0],
+        k: 0,
+        d: 0,
+    };
+    let gray = [
+        0, 0, 0, 18, 1, 0, 0, 0, 0, 0, 0, 0, 0, 0, 0, 0, 0, 0, 0, 0, 4, 0,
+    ];
+    for (kind, operands, number) in [
+        (5, &[3, 0][..], 19),
+        (5, &[3, 2], 18),
+        (5, &[8, 8], 18),
+        (6, &[5, 0], 18),
+        (6, &[3, 7], 19),
+        (7, &[6, 5], 18),
+        (7, &[7, 5], 19),
+        (7, &[8, 8], 18),
+        (8, &[5], 18),
+        (8, &[6], 19),
+        (8, &[8], 19),
+    ] {
+        let mut s = at_the_limit();
+        let last = s.record(kind, operands);
+        s.face(last);
+        let (sheet, refused) = (s.finish(), (7, number));
+        assert_eq!(build(&sheet, &root).err(), Some(refused));
+        assert_eq!(crate::library::build(&sheet, &root, &mut []), Err(refused));
+        let point = [0, 0, 0];
+        assert_eq!(crate::scan::lookup(&sheet, &gray, point), Err(refused));
+        assert_eq!(crate::library::lookup(&sheet, &gray, point), Err(refused));
+    }
 }

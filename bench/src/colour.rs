@@ -50,6 +50,10 @@ impl Interval {
     fn limited(self) -> Option<Interval> {
         (self.low >= -LIMIT && self.high <= LIMIT).then_some(self)
     }
+
+    fn ends(self) -> [i128; 2] {
+        [self.low, self.high].map(i128::from)
+    }
 }
 
 #[derive(Clone, Copy, PartialEq, Default)]
@@ -163,4 +167,28 @@ pub fn colour(
         }
     }
     Ok(states[records.len() - 1])
+}
+
+/// Document 01's number for the first record past the limit: twice its own, plus 1 if its low end is within the limit. Only a refusal needs
+/// it, so it is worked out from the bounds of the records before, in 128 bits, and not in the loop that is timed. It is cold, since the loop
+/// took up to an eighth longer otherwise.
+#[cold]
+pub fn over_number(records: &[Record], bounds: &[Interval], record: usize) -> u64 {
+    let of = |a: u8| bounds[a as usize].ends();
+    let low = match records[record] {
+        Record::Sum(a, b) => of(a)[0] + of(b)[0],
+        Record::Difference(a, b) => of(a)[0] - of(b)[1],
+        Record::Product(a, b) => {
+            let by = |end: i128| of(b).map(|other| end * other);
+            of(a).map(by).concat().into_iter().min().unwrap()
+        }
+        Record::Square(a) => match of(a) {
+            [low, _] if low >= 0 => low * low,
+            [_, high] if high <= 0 => high * high,
+            _ => 0,
+        },
+        _ => unreachable!("no other record can pass the limit"),
+    };
+    let within = i128::from(-LIMIT)..=i128::from(LIMIT);
+    2 * record as u64 + u64::from(within.contains(&low))
 }

@@ -112,7 +112,7 @@ pub fn lookup(sheet: &[u8], map: &[u8], point: [i32; 3]) -> Result<u64, Refusal>
         wanted.unwrap_or(0),
     )
     .map_err(bad)?;
-    limited_over_root(&records, &root).map_err(|record| (7, record as u64))?;
+    limited_over_root(&records, &root).map_err(|number| (7, number))?;
     if wanted.is_none() {
         return Err((10, 0));
     }

@@ -20,7 +20,7 @@ static const char *why(uint32_t code) {
     case ZONE_SOLID: return "the sheet has this many records, and the last is not logical";
     case ZONE_LIMITS: return "the root or the depth is out of limits";
     case ZONE_MAP: return "the map is bad at this offset";
-    case ZONE_OVER_ROOT: return "the bounds of this record over the root pass 2^60";
+    case ZONE_OVER_ROOT: return "the bounds of a record over the root pass 2^60";
     case ZONE_SHORT: return "the map needs a buffer of this many bytes";
     case ZONE_NOT_IN_ROOT: return "not in the root";
     default: return "a code of a later version";
@@ -29,6 +29,9 @@ static const char *why(uint32_t code) {
 
 static void print_refusal(ZoneReply reply) {
     printf("refused by %u with %llu, %s\n", reply.code, (unsigned long long)reply.number, why(reply.code));
+    if (reply.code == ZONE_OVER_ROOT)
+        printf("it is the %s end of record %llu\n", ZONE_OVER_END(reply.number) == ZONE_LOW_END ? "low" : "high",
+               (unsigned long long)ZONE_OVER_RECORD(reply.number));
 }
 
 /* Prints the number that a call returns, or why it refuses. Returns whether the call is done. */

@@ -1,5 +1,5 @@
-/* Calls at the edges of what zone.h promises: no bytes, a byte too few, a map that lies in the buffer of its sheet, and a leaf that
-   names no face. Prints one line per call that returns something else, and exits with 1 if there is one. */
+/* Calls at the edges of what zone.h promises: no bytes, a byte too few, a map that lies in the buffer of its sheet, a leaf that names no
+   face, and bounds that pass 2^60 at either end. Prints one line per call that returns something else, and exits with 1 if there is one. */
 #include "zone.h"
 #include <stdio.h>
 
@@ -66,10 +66,34 @@ static void no_face(void) {
     is("a leaf that names no face, looked up", zone_lookup(bytes, sheet_len, map, 43, 0, 0, 0), ZONE_MAP, 22);
 }
 
+/* A build, and a lookup in a map of the step room over the same root, refuse a sheet with this record and end. */
+static void is_over(const char *what, const uint8_t *sheet, size_t length, uint64_t record, enum ZoneEnd end) {
+    uint8_t map[22];
+    is(what, zone_build(sheet, length, 1048575, 0, 0, 0, 0, NONE, 0), ZONE_OVER_ROOT, 2 * record + end);
+    is(what, zone_build(bytes, sheet_len, 1048575, 0, 0, 0, 0, map, sizeof map), ZONE_DONE, sizeof map);
+    is(what, zone_lookup(sheet, length, map, sizeof map, 1048575, 0, 0), ZONE_OVER_ROOT, 2 * record + end);
+    if (ZONE_OVER_RECORD(2 * record + end) == record && ZONE_OVER_END(2 * record + end) == end)
+        return;
+    printf("%s: the number is taken apart as another record or end\n", what);
+    failed = 1;
+}
+
+/* Over x from 1048575 to 1048576: the cube of x reaches 2^60, and the sum with x passes it; the square of -2^31 is above 2^60 all over
+   the root; y less the cube reaches -2^60, and less y once more passes it. */
+static void over_root(void) {
+    static const uint8_t high[] = {0, 17, 1, 1, 2, 2, 8, 0, 3, 7, 1, 0, 3, 5, 2, 0, 2, 16, 3};
+    static const uint8_t above[] = {0, 13, 1, 5, 1, 128, 0, 0, 0, 2, 8, 0, 2, 16, 1};
+    static const uint8_t below[] = {0, 23, 1, 1, 2, 2, 8, 0, 3, 7, 1, 0, 1, 3, 3, 6, 3, 2, 3, 6, 4, 3, 2, 16, 5};
+    is_over("the high end above 2^60", high, sizeof high, 3, ZONE_HIGH_END);
+    is_over("both ends above 2^60", above, sizeof above, 1, ZONE_LOW_END);
+    is_over("the low end below -2^60", below, sizeof below, 5, ZONE_LOW_END);
+}
+
 int main(void) {
     no_bytes();
     a_byte_short();
     side_by_side();
     no_face();
+    over_root();
     return failed;
 }

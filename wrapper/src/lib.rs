@@ -9,7 +9,7 @@ mod ffi;
 mod refusal;
 
 use ffi::ZoneReply;
-pub use refusal::Refusal;
+pub use refusal::{End, Refusal};
 
 /// Where a map is built: the root's low corner, its side 2^k in units of 1/256 metre, and the depth d.
 #[derive(Clone, Copy, PartialEq, Eq, Debug)]

@@ -1,5 +1,5 @@
 //! Document 01's rows through the safe calls: the step room, its lookups, and refusals of all calls.
-use zone::{build, build_vec, check, lookup, open, Answer, Refusal, Root};
+use zone::{build, build_vec, check, lookup, open, Answer, End, Refusal, Root};
 
 const SHEET: &[u8] = include_bytes!("../../examples/step-room.sheet");
 
@@ -17,6 +17,19 @@ fn map() -> Vec<u8> {
     let header = [0, 0, 0, 0x27, 1, 0, 0, 0, 0, 0, 0, 0, 0, 0, 0, 0, 0, 2, 1];
     [&header[..], &four, &four].concat()
 }
+
+/// Records x, its square, that times x, x added to that, and a face. Over x from 1048575 to 1048576 record 2 reaches 2^60, and record 3 passes it.
+const PASSED: [u8; 19] = [0, 17, 1, 1, 2, 2, 8, 0, 3, 7, 1, 0, 3, 5, 2, 0, 2, 16, 3];
+const AT_THE_END: Root = Root {
+    corner: [1048575, 0, 0],
+    k: 0,
+    d: 0,
+};
+/// Document 01's row for it: 7 with 7.
+const HIGH_END: Refusal = Refusal::OverRoot {
+    record: 3,
+    end: End::High,
+};
 
 /// The map with one byte changed.
 fn damaged(at: usize, byte: u8) -> Vec<u8> {
@@ -67,12 +80,7 @@ fn a_vector_has_the_length_of_the_map() {
 fn a_vector_is_refused_as_a_buffer_is() {
     assert_eq!(build_vec(&[0, 1, 2], root(1)), Err(Refusal::SheetVersion));
     assert_eq!(build_vec(SHEET, root(3)), Err(Refusal::Limits));
-    let passed = [0, 17, 1, 1, 2, 2, 8, 0, 3, 7, 1, 0, 3, 5, 2, 0, 2, 16, 3];
-    let corner = [1048575, 0, 0];
-    assert_eq!(
-        build_vec(&passed, Root { corner, k: 0, d: 0 }),
-        Err(Refusal::OverRoot { record: 3 })
-    );
+    assert_eq!(build_vec(&PASSED, AT_THE_END), Err(HIGH_END));
 }
 
 #[test]
@@ -145,20 +153,34 @@ fn a_root_or_depth_out_of_limits_is_refused() {
 
 #[test]
 fn the_limit_of_bounds() {
-    // x, its square, that times x, a face; the root's only point is x 1048575 to 1048576, so 2^60 is reached.
+    // Without record 3, and a face of record 2.
     let reached = [0, 13, 1, 1, 2, 2, 8, 0, 3, 7, 1, 0, 2, 16, 2];
-    // The same with x added to the third, and a face of that.
-    let passed = [0, 17, 1, 1, 2, 2, 8, 0, 3, 7, 1, 0, 3, 5, 2, 0, 2, 16, 3];
-    let root = Root {
-        corner: [1048575, 0, 0],
-        k: 0,
-        d: 0,
+    assert_eq!(build(&reached, AT_THE_END, &mut [0; 22]), Ok(22));
+    assert_eq!(build(&PASSED, AT_THE_END, &mut [0; 22]), Err(HIGH_END));
+}
+
+#[test]
+fn a_lookup_and_a_build_say_which_end_passes_the_limit() {
+    let map = build_vec(SHEET, AT_THE_END).unwrap();
+    let refused = |sheet: &[u8], why| {
+        assert_eq!(build(sheet, AT_THE_END, &mut []), Err(why));
+        assert_eq!(lookup(sheet, &map, [1048575, 0, 0]), Err(why));
     };
-    assert_eq!(build(&reached, root, &mut [0; 22]), Ok(22));
-    assert_eq!(
-        build(&passed, root, &mut [0; 22]),
-        Err(Refusal::OverRoot { record: 3 })
+    refused(&PASSED, HIGH_END);
+    let low_end = |record| Refusal::OverRoot {
+        record,
+        end: End::Low,
+    };
+    // The square of -2^31, which is above 2^60 all over the root.
+    refused(
+        &[0, 13, 1, 5, 1, 128, 0, 0, 0, 2, 8, 0, 2, 16, 1],
+        low_end(1),
     );
+    // Record 2 again, and y. y less record 2 reaches -2^60, and less y once more passes it, at the low end alone.
+    let below = [
+        0, 23, 1, 1, 2, 2, 8, 0, 3, 7, 1, 0, 1, 3, 3, 6, 3, 2, 3, 6, 4, 3, 2, 16, 5,
+    ];
+    refused(&below, low_end(5));
 }
 
 #[test]
@@ -206,5 +228,10 @@ fn a_refusal_has_the_code_and_number_of_document_01() {
     assert_eq!(
         why.to_string(),
         "the map's leaf at byte 22 is bad, by itself or for the sheet of a lookup, or the leaves stop short there"
+    );
+    assert_eq!((HIGH_END.code(), HIGH_END.number()), (7, 7));
+    assert_eq!(
+        HIGH_END.to_string(),
+        "the high end of record 3's bounds over the root is outside -2^60 to 2^60: take a smaller root, or one whose far side is nearer to 0"
     );
 }

@@ -22,7 +22,7 @@ fn build_from(s: &[u8]) {
     if s.len() < 15 {
         return;
     }
-    let mut filled = [FILLED; 256];
+    let mut filled = [FILLED; 216];
     let out: &mut [u8] = &mut filled;
     let room = room_of(s[14], out);
     let reply = zone::zone_build(
@@ -37,7 +37,7 @@ fn build_from(s: &[u8]) {
     answer(reply.code, reply.number, out);
 }
 
-// The number of bytes lent: b, since the buffer has 256.
+// The number of bytes lent: b, which no vector has above 216.
 fn room_of(b: u8, buffer: &[u8]) -> usize
     ensures { λ r. ⌜ Counts r (now (buffer .entry)) ⌝ }
 {

@@ -13,6 +13,7 @@ use lib.ListN.{length}
 use lib.Seq.{sets, sets-eq, length-sets}
 use Rattle.integers.proofs.Stores.{sets-append}
 use Rattle.replies.specs.declared.Refusal.{Refusal}
+use Rattle.replies.specs.declared.Over.{Over}
 use Rattle.replies.specs.declared.Refusal.the-variants.{Limits, OverRoot, Short}
 use Rattle.replies.specs.declared.Reply.{Reply}
 use Rattle.replies.specs.declared.Reply.the-variants.{Done, Refused}
@@ -69,9 +70,9 @@ module _ (root : Root) (b : Bool) (e : b ≡ inLimits root) where
 
 -- ---- reply 7: q is what `cube` returned, and j what `judge` did
 module _ (root : Root) (w : inLimits root ≡ true) (q : Cube) (is : q ≡ rootCube root) (rs : List Record) (solid : ℕ) (j : Judged) (e : j ≡ judgedOf rs q solid) where
-  pub over-root : (n : ℕ) → j ≡ Past n → (d : List ℕ) → outcome (Refused (OverRoot n)) d ≡ overRootOf rs root d
+  pub over-root : (o : Over) → j ≡ Past o → (d : List ℕ) → outcome (Refused (OverRoot o)) d ≡ overRootOf rs root d
   unfolding overRootOf
-  over-root n h d = rw (w, past-first rs (rootCube root) q is solid j e n h)
+  over-root o h d = rw (w, past-first rs (rootCube root) q is solid j e o h)
 
   pub under-limit : (state : State) → j ≡ Known state → (d : List ℕ) (o : Outcome) → o ≡ storedOf (builtMap rs root) d → o ≡ overRootOf rs root d
   unfolding overRootOf

@@ -5,7 +5,7 @@ use mathlib.Core.List.{List, [], _∷_}
 use Prim.Native.Nat.{ℕ}
 use Rattle.bigendian.specs.Numbers.{bytesOf, unsigned32}
 use Rattle.interval.specs.Rules.{sum, difference}
-use Rattle.interval.specs.Limit.{isSmall, isWithin}
+use Rattle.interval.specs.Limit.{isSmall, pastEnd}
 use Rattle.sheet.specs.Along.{along, onward}
 use Rattle.sheet.specs.StepRoom.{stepSheet, stepRecords}
 use Rattle.sheet.proofs.StepRoom.{step-records, step-check}
@@ -27,7 +27,7 @@ map-1 = ap (mapOf (stepRoot 1)) depth-1
 -- ---- what building returns
 -- no record passes 2^60 over the root
 step-none : (d : ℕ) → firstPast stepRecords (rootCube (stepRoot d)) ≡ []
-unfolding firstPast along onward entryOf boundsOf across sum difference rootCube pastFrom isWithin isSmall
+unfolding firstPast along onward entryOf boundsOf across sum difference rootCube pastFrom pastEnd isSmall
 step-none d = refl
 
 -- the depths in document 01

@@ -41,7 +41,7 @@ storedOf map out =
 unfoldable pub overRootOf : List Record → Root → List ℕ → Outcome
 overRootOf rs root out =
     cond (not (inLimits root)) (outcome (Refused Limits) out)
-    (onFirst (firstPast rs (rootCube root)) (λ n. outcome (Refused (OverRoot n)) out)
+    (onFirst (firstPast rs (rootCube root)) (λ o. outcome (Refused (OverRoot o)) out)
     (storedOf (builtMap rs root) out))
 
 -- building by the table of replies, row by row: first replies 1 to 5

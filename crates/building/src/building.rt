@@ -46,8 +46,8 @@ fn over_root(sheet: &[u8], solid: u8, root: Root, out: &mut [u8]) -> Reply
         Judged::Known(_) => {
             return stored(sheet, &offsets, solid, root, out);
         }
-        Judged::Past(n) => {
-            return Reply::Refused(Refusal::OverRoot(n));
+        Judged::Past(over) => {
+            return Reply::Refused(Refusal::OverRoot(over));
         }
     }
 }

@@ -1,5 +1,5 @@
 -- What each arm returns in the two matches over the kinds of records.
-use mathlib.Core.Path.{_≡_, sym}
+use mathlib.Core.Path.{_≡_}
 use mathlib.Core.List.{List}
 use Prim.Native.Nat.{ℕ, _+_, _≤_, _<_, _^_}
 use native.Mathlib.Omega.{arith}
@@ -28,7 +28,7 @@ use Rattle.colour.specs.Held.{Held, heldAt, stateBy}
 
 -- an interval whose ends are within the limit is returned as it is
 within : (i : Interval) → SmallEnds i → Within i ≡ boundedOf i
-within i s = sym (bounded-within i (ends-within i s))
+within i s = bounded-within i (ends-within i s)
 
 pub zero-small : SmallEnds none
 zero-small = record { low = omega arith; high = omega arith }

@@ -1,21 +1,22 @@
 -- The loop that computes the bounds and states of all records over a cube: the first n records are done, and four arrays hold what is known of them.
 use mathlib.Core.Path.{_≡_, refl, sym, ap, _∙_}
-use mathlib.Core.Bool.{false}
-use mathlib.Core.List.{List, [], _∷_, _++_, append-assoc}
+use mathlib.Core.List.{List, [], _∷_, _++_}
 use Prim.Native.Nat.{ℕ, _+_, _≤_, _<_}
 use native.Mathlib.Omega.{arith}
 use lib.IntN.{ℤ, pos}
 use mir.Syntax.{w64}
 use mir.Val.{Fits, toZ, ofZ}
-use lib.ListN.{length, getD, take, drop, set, replicate, length-set, length-take, take-append-drop}
-use lib.Seq.{take-all}
+use lib.ListN.{length, getD, take, set, replicate, length-set, length-take}
+use lib.Seq.{take-all, getD-take, getD-at}
 use Rattle.interval.specs.declared.Interval.{Interval}
+use Rattle.replies.specs.declared.End.{End}
 use Rattle.interval.specs.declared.Bounded.{Bounded}
-use Rattle.interval.specs.declared.Bounded.the-variants.{Within, Past as Over}
+use Rattle.interval.specs.declared.Bounded.the-variants.{Within, Past as Beyond}
 use Rattle.interval.specs.Rules.{from}
-use Rattle.interval.specs.Limit.{isWithin, boundedOf}
+use Rattle.interval.specs.Limit.{SmallEnds, pastEnd, boundedOf}
 use Rattle.interval.proofs.Limit.{limit-back}
-use Rattle.interval.proofs.Facts.{past-tells, within-is, within-small}
+use Rattle.interval.proofs.Facts.{past-is, within-is, within-small}
+use Rattle.replies.specs.Table.{over}
 use Rattle.sheet.specs.declared.Record.{Record}
 use Rattle.sheet.specs.declared.Record.the-variants.{X}
 use Rattle.sheet.specs.declared.Row.the-variants.{Known as IsRecord}
@@ -38,7 +39,7 @@ use Rattle.colour.specs.States.{classOf, faceOf, stateOf}
 use Rattle.colour.specs.Held.{Held, heldAt, stateBy}
 use Rattle.colour.specs.Entries.{Entry, blank, faceBounds, entryOf, entries, pastFrom, firstPast, judgedOf}
 use Rattle.colour.proofs.Arms.{zero-small}
-use Rattle.colour.proofs.FirstPast.{Keep, first-past, none-past, keep-more}
+use Rattle.colour.proofs.FirstPast.{Keep, past-at, none-past, keep-more}
 
 -- the entries of the first n records
 abbrev done : List ℕ → Cube → ℕ → List Entry
@@ -167,20 +168,22 @@ module _ (s offsets : List ℕ) (count : ℕ) (q : Cube) (low high : List ℤ) (
     grown : done s q (n + 1) ≡ done s q n ++ this ∷ []
     grown = ap (entries q) (stands-taken s (getD offsets n 0) n walk more r row X) ∙ along-more (entryOf q) (take n rs) r
 
-    -- all entries: those before it, its own, and those after it
-    cut : entries q rs ≡ done s q n ++ (this ∷ drop (n + 1) (entries q rs))
-    cut =
-        sym (take-append-drop (n + 1) (entries q rs))
-        ∙ ap (λ (l : List Entry). l ++ drop (n + 1) (entries q rs)) (take-along (entryOf q) rs (n + 1) (omega arith) ∙ grown)
-        ∙ append-assoc (done s q n) (this ∷ []) (drop (n + 1) (entries q rs))
+    -- among all entries: those before it keep the limit, and it is number n
+    earlier : (a : ℕ) → a < n → SmallEnds (getD (entries q rs) a blank .bounds)
+    earlier a h = rw (sym (getD-take n (entries q rs) a blank h), take-along (entryOf q) rs n (w .among)) (w .keep a)
+
+    at-n : getD (entries q rs) n blank ≡ this
+    at-n =
+        sym (getD-take (n + 1) (entries q rs) n blank (omega arith))
+        ∙ ap (λ (l : List Entry). getD l n blank) (take-along (entryOf q) rs (n + 1) (omega arith) ∙ grown)
+        ∙ getD-at (done s q n) this [] blank n long
 
     module _ (got : Bounded) (eb : got ≡ boundedOf (boundsOf q (heldAt low high first) (heldAt low high second) r)) where
-      pub judged-past : (which : ℕ) → got ≡ Over → Past n ≡ judgedOf rs q which
-      unfolding judgedOf firstPast
-      judged-past which h =
-          let f : isWithin (this .bounds) ≡ false = rw bounds-are at (past-tells got (boundsOf q (heldAt low high first) (heldAt low high second) r) eb h) in
-          let p : pastFrom 0 (entries q rs) ≡ n ∷ [] = ap (pastFrom 0) cut ∙ first-past 0 n (done s q n) this (drop (n + 1) (entries q rs)) (w .keep) f (omega (arith, long)) in
-          rw p
+      pub judged-past : (which : ℕ) (end : End) → got ≡ Beyond end → Past (over n end) ≡ judgedOf rs q which
+      unfolding judgedOf
+      judged-past which end h =
+          let f : pastEnd (this .bounds) ≡ end ∷ [] = rw bounds-are at (past-is got (boundsOf q (heldAt low high first) (heldAt low high second) r) eb end h) in
+          rw (past-at rs q n end earlier (rw at-n f))
 
       module _ (v : Interval) (ev : got ≡ Within v) where
         exact : v ≡ this .bounds

@@ -1,11 +1,12 @@
 -- What is known of each record over a cube, record by record, and the limit.
 use Prim.Native.Nat.{ℕ, suc}
-use mathlib.Core.Bool.{cond}
 use mathlib.Core.List.{List, [], _∷_}
 use lib.ListN.{length, getD}
 use Rattle.integers.specs.First.{onFirst}
 use Rattle.interval.specs.declared.Interval.{Interval}
-use Rattle.interval.specs.Limit.{isWithin}
+use Rattle.interval.specs.Limit.{pastEnd}
+use Rattle.replies.specs.declared.Over.{Over}
+use Rattle.replies.specs.Table.{over}
 use Rattle.sheet.specs.declared.Record.{Record}
 use Rattle.sheet.specs.Operands.{firstOf, secondOf}
 use Rattle.sheet.specs.Along.{along}
@@ -44,15 +45,15 @@ entryOf q before r =
 abbrev pub entries : Cube → List Record → List Entry
 entries q = along (entryOf q)
 
--- the first record whose bounds pass 2^60, if one does, among entries that begin with that of record n
-unfoldable pub pastFrom : ℕ → List Entry → List ℕ
+-- the first record whose bounds pass 2^60, if one does, with the end that does, among entries that begin with that of record n
+unfoldable pub pastFrom : ℕ → List Entry → List Over
 pastFrom n [] = []
-pastFrom n (e ∷ es) = cond (isWithin (e .bounds)) (pastFrom (suc n) es) (n ∷ [])
+pastFrom n (e ∷ es) = onFirst (pastEnd (e .bounds)) (λ end. over n end ∷ []) (pastFrom (suc n) es)
 
--- the first record whose bounds over a cube pass 2^60, if one does
-unfoldable pub firstPast : List Record → Cube → List ℕ
+-- the first record whose bounds over a cube pass 2^60, if one does, with the end that does
+unfoldable pub firstPast : List Record → Cube → List Over
 firstPast rs q = pastFrom 0 (entries q rs)
 
--- the state of record n over a cube, or the first record whose bounds pass 2^60
+-- the state of record n over a cube, or the first record whose bounds pass 2^60, with the end that does
 unfoldable pub judgedOf : List Record → Cube → ℕ → Judged
 judgedOf rs q n = onFirst (firstPast rs q) Past (Known (getD (entries q rs) n blank .state))

@@ -12,6 +12,7 @@ use crate::entries;
 use crate::states;
 use cube::Cube;
 use interval::Bounded;
+use replies::Over;
 
 // The state of record `which` over a cube, or the first of the sheet's `count` records whose bounds pass the limit. The bounds are filled in place, since
 // copying them for each record would cost more than the rules.
@@ -29,8 +30,14 @@ pub fn judge(s: &[u8], offsets: &[u16], count: usize, q: Cube, which: u8) -> Jud
     while b.count < count {
         let n = b.count;
         let r = records::record_at(s, offsets[n] as usize);
-        let Bounded::Within(v) = entries::bounds(r, q, &b.low, &b.high) else {
-            return Judged::Past(n);
+        let v = match entries::bounds(r, q, &b.low, &b.high) {
+            Bounded::Within(v) => v,
+            Bounded::Past(end) => {
+                return Judged::Past(Over {
+                    index: n as u8,
+                    end,
+                });
+            }
         };
         let state = entries::state(r, n as u8, &b.low, &b.high, &classes, &faces);
         classes[n] = state.class();

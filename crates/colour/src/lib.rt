@@ -5,6 +5,7 @@ mod judging;
 mod states;
 
 pub use judging::judge;
+use replies::Over;
 
 // What is known of a logical record over a cube: it holds nowhere in the cube; it holds all over it; it holds exactly where one face does; it holds exactly
 // where that face does not; or nothing is known. The variants are in the order of their classes, 0 to 4.
@@ -23,8 +24,8 @@ pub struct Bounds {
     pub count: usize,
 }
 
-// The state of a record over a cube, or the first record whose bounds pass the limit.
+// The state of a record over a cube, or the first record whose bounds pass the limit, with the end that does.
 pub enum Judged {
     Known(State),
-    Past(usize),
+    Past(Over),
 }

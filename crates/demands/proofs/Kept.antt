@@ -10,6 +10,7 @@ use Rattle.demands.proofs.Soundness.{truthful}
 use Rattle.demands.proofs.Tiling.{tiling, covering}
 use Rattle.demands.proofs.Lookups.{looks-up, lookup-refused, lookup-rows, by-the-leaf, truth}
 use Rattle.demands.proofs.Rows.{rows}
+use Rattle.demands.proofs.LimitRows.{limit-rows}
 use Rattle.demands.proofs.Row11.{reply-11}
 
 table : Table
@@ -50,4 +51,4 @@ demand-3 = record {
 }
 
 pub demands : Demands
-demands = record { first = demand-1; second = demand-2; third = demand-3; rows = rows; reply-11 = reply-11 }
+demands = record { first = demand-1; second = demand-2; third = demand-3; rows = rows; limit-rows = limit-rows; reply-11 = reply-11 }

@@ -8,6 +8,7 @@ pub mod Soundness
 pub mod Tiling
 pub mod Lookups
 pub mod Rows
+pub mod LimitRows
 pub mod Row11
 pub mod Kept
 pub mod Contracts

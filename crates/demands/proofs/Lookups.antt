@@ -44,6 +44,7 @@ use Rattle.zone.specs.Replies.{reply, byNumber, zoneCheckOf, zoneLookupOf}
 use Rattle.demands.specs.Terms.{DoneWhere, Touches, GoodSheet, GoodLeaf, CanLookUp, Agrees, Truthful}
 use Rattle.demands.specs.Table.{LookupRows}
 use Rattle.demands.specs.Demands.{ByTheLeaf}
+use Rattle.demands.proofs.Outcomes.{row-7}
 use Rattle.demands.proofs.Sheets.{check-good, good-check}
 use Rattle.demands.proofs.Opening.{opens-told, opens-fault}
 use Rattle.demands.proofs.AtPoint.{by-its-face}
@@ -71,7 +72,7 @@ module _ (sheet map : List ℕ) (p : Point) where
   unfolding zoneLookupOf lookupOf pointReply
   looks-up-only e =
       let opened = none-first Answers Refused _ (pairRefusal sheet map) (no-code 0 refl) e in
-      let over = none-first Answers (λ n. Refused (OverRoot n)) _ (firstPast rs (rootCube (rootOf map))) (λ at z. omega arith) (opened .1) in
+      let over = none-first Answers (λ o. Refused (OverRoot o)) _ (firstPast rs (rootCube (rootOf map))) (λ at z. omega arith) (opened .1) in
       let good = not-refused (checkOf sheet) (pair-good sheet map (opened .0)) in
       by-test (holdsPoint (rootCube (rootOf map)) p)
       (λ t. record {
@@ -137,7 +138,7 @@ module _ (sheet map : List ℕ) (p : Point) where
   unfolding zoneLookupOf lookupOf pairRefusal pointReply
   lookup-rows good = record {
     row-9 = λ at fault. rw (good-check sheet good, fault);
-    row-7 = λ opens n past. rw (good-check sheet good, opens-fault (hasFace rs) map opens, past);
+    row-7 = λ opens. row-7 rs (rootOf map) _ (λ o past. rw (good-check sheet good, opens-fault (hasFace rs) map opens, past));
     row-10 = λ opens bounded out. rw (good-check sheet good, opens-fault (hasFace rs) map opens, keep-none rs (rootCube (rootOf map)) bounded, out-of-root out);
   }
 

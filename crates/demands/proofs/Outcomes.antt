@@ -1,6 +1,6 @@
 -- What zone_build returns: code 0 exactly if no row of the table refuses, and if one does the lent buffer is unchanged.
-use mathlib.Core.Path.{_≡_, refl, sym, ap}
-use mathlib.Core.List.{List}
+use mathlib.Core.Path.{_≡_, refl, sym, ap, _∙_}
+use mathlib.Core.List.{List, [], _∷_}
 use Prim.Native.Nat.{ℕ}
 use native.Mathlib.Omega.{arith}
 use borrow.Author.Tests.{le-ltb, lt-ltb}
@@ -9,10 +9,14 @@ use lib.ListN.{length}
 use Rattle.integers.specs.First.{onFirst}
 use Rattle.integers.proofs.First.{each-first}
 use Rattle.integers.proofs.Order.{by-test}
+use Rattle.interval.proofs.Limit.{small-test, large-test}
+use Rattle.interval.proofs.Facts.{low-past, high-past}
+use Rattle.replies.specs.declared.End.the-variants.{Low, High}
+use Rattle.replies.specs.declared.Over.{Over}
 use Rattle.replies.specs.declared.Refusal.the-variants.{OverRoot}
 use Rattle.replies.specs.declared.Reply.{Reply}
 use Rattle.replies.specs.declared.Reply.the-variants.{Done, Refused}
-use Rattle.replies.specs.Table.{refusalOf}
+use Rattle.replies.specs.Table.{over, overNumber, refusalOf}
 use Rattle.replies.proofs.Told.{not-refused}
 use Rattle.sheet.specs.declared.Record.{Record}
 use Rattle.sheet.specs.Records.{recordsOf}
@@ -22,14 +26,15 @@ use Rattle.cube.specs.Limits.{inLimits}
 use Rattle.cube.specs.Cubes.{rootCube}
 use Rattle.cube.proofs.Numbers.{within-limits, limits-within, out-of-limits}
 use Rattle.colour.specs.Entries.{firstPast}
+use Rattle.colour.proofs.FirstPast.{past-at}
 use Rattle.colour.proofs.Smaller.{none-keep, keep-none}
 use Rattle.building.specs.Build.{Outcome, outcome, builtMap, storedOf, overRootOf, buildOf}
 use Rattle.building.proofs.Answers.{Made, done-made}
 use Rattle.zone.specs.declared.ZoneReply.{ZoneReply}
-use Rattle.zone.specs.Replies.{byNumber, zoneCheckOf, ZoneOutcome, zoneOutcome, outcomeByNumber, zoneBuildOf}
+use Rattle.zone.specs.Replies.{reply, byNumber, zoneCheckOf, ZoneOutcome, zoneOutcome, outcomeByNumber, zoneBuildOf}
 use Rattle.zone.proofs.ByNumber.{done-code}
-use Rattle.demands.specs.Terms.{ExactlyOne, DoneWhere, GoodSheet, CanBuild}
-use Rattle.demands.specs.Table.{BuildRows}
+use Rattle.demands.specs.Terms.{ExactlyOne, DoneWhere, GoodSheet, boundsOver, CanBuild}
+use Rattle.demands.specs.Table.{Row7, BuildRows}
 use Rattle.demands.proofs.Sheets.{check-good, good-check}
 
 -- ---- an equation accepts exactly one outcome
@@ -42,6 +47,15 @@ one-outcome told = record {
   fits = refl;
   no-second = λ o e i. (e i .reply, e i .buffer);
 }
+
+-- ---- row 7, of a reply that has the number of the first record past the limit over the root
+pub row-7 : (rs : List Record) (root : Root) (r : ZoneReply) → ((o : Over) → firstPast rs (rootCube root) ≡ o ∷ [] → r ≡ reply 7 (overNumber o)) → Row7 rs root r
+row-7 rs root r told =
+    let q = rootCube root in
+    record {
+      low = λ n keep past. told (over n Low) (past-at rs q n Low keep (low-past (boundsOver rs q n) (large-test _ past))) ∙ ap (reply 7) (omega arith);
+      high = λ n keep small past. told (over n High) (past-at rs q n High keep (high-past (boundsOver rs q n) (small-test _ small) (large-test _ past)));
+    }
 
 -- ---- if the code is not 0, the buffer is unchanged
 module _ (before : List ℕ) where
@@ -60,7 +74,7 @@ module _ (before : List ℕ) where
   solid-kept rs root =
       by-test (inLimits root)
       (λ t. rw t
-      (each-first Kept (λ n. outcome (Refused (OverRoot n)) before) _ (firstPast rs (rootCube root)) (λ n _. refl)
+      (each-first Kept (λ o. outcome (Refused (OverRoot o)) before) _ (firstPast rs (rootCube root)) (λ o _. refl)
       (stored-kept (builtMap rs root))))
       (λ t. rw t (λ _. refl))
 
@@ -110,6 +124,6 @@ module _ (sheet : List ℕ) (root : Root) (before : List ℕ) where
   unfolding zoneBuildOf buildOf overRootOf storedOf
   build-rows good = record {
     row-6 = λ out. rw (good-check sheet good, out-of-limits root out);
-    row-7 = λ within n past. rw (good-check sheet good, limits-within root within, past);
+    row-7 = λ within. row-7 rs root _ (λ o past. rw (good-check sheet good, limits-within root within, past));
     row-8 = λ within bounded short. rw (good-check sheet good, limits-within root within, keep-none rs (rootCube root) bounded, lt-ltb _ _ short);
   }

@@ -10,9 +10,11 @@ use lib.IntN.{pos}
 use Rattle.integers.specs.Least.{lesserOf, greaterOf}
 use Rattle.integers.proofs.Order.{by-test}
 use Rattle.interval.specs.Rules.{sum, difference, span, product, square}
-use Rattle.interval.specs.Limit.{isSmall, isWithin}
+use Rattle.interval.specs.Limit.{isSmall, pastEnd}
+use Rattle.replies.specs.declared.End.the-variants.{Low, High}
 use Rattle.replies.specs.declared.Reply.{Reply}
 use Rattle.replies.specs.declared.Reply.the-variants.{Done, Refused}
+use Rattle.replies.specs.Table.{over}
 use Rattle.replies.proofs.Told.{no-code}
 use Rattle.sheet.specs.declared.Record.{Record}
 use Rattle.sheet.specs.declared.Record.the-variants.{Constant, Square, Product, Complement}
@@ -54,10 +56,10 @@ none-in-tree rs (suc left) q none =
     (λ t. rw (none, t))
 
 -- The old row is not always empty: for a root that passes the limit it lists each cube. c² x, where c is 2^29 + 1, passes it over the root of the step room and
--- over the children in the high half of x, and c^4 passes it everywhere. The solid is the complement of the step room, so the root is gray.
+-- over the children in the high half of x, with the high end, and c^4 passes it everywhere, with the low end too. The solid is the complement of the step room, so the root is gray.
 past-rows : pastInTree (stepRecords ++ Constant (pos (2 ^ 29 + 1)) ∷ Square 8 ∷ Product 9 0 ∷ Square 9 ∷ Complement 7 ∷ []) 1 (rootCube (stepRoot 1))
-    ≡ 10 ∷ 11 ∷ 10 ∷ 11 ∷ 10 ∷ 11 ∷ 10 ∷ 11 ∷ 10 ∷ []
-unfolding pastInTree upto isGray solidState firstPast pastFrom isWithin isSmall along onward entryOf faceBounds boundsOf stateOf across sum difference span product square lesserOf greaterOf faceState joinedBy otherwiseOf rootCube childOf
+    ≡ over 10 High ∷ over 11 Low ∷ over 10 High ∷ over 11 Low ∷ over 10 High ∷ over 11 Low ∷ over 10 High ∷ over 11 Low ∷ over 10 High ∷ []
+unfolding pastInTree upto isGray solidState firstPast pastFrom pastEnd isSmall along onward entryOf faceBounds boundsOf stateOf across sum difference span product square lesserOf greaterOf faceState joinedBy otherwiseOf rootCube childOf
 past-rows = refl
 
 -- ---- the same outcome
@@ -75,7 +77,7 @@ module _ (sheet : List ℕ) (root : Root) (before : List ℕ) where
       (λ within.
       past-cases 0 (entries (rootCube root) rs)
       (λ none. rw (within, none, none-in-tree rs (root .d) (rootCube root) none))
-      (λ n past. rw (within, past)))
+      (λ o past. rw (within, past)))
       (λ out. rw out)))
       (λ bad. rw bad (build-refused sheet (eqb-false _ 0 bad) root before))
 

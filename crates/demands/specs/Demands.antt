@@ -22,7 +22,7 @@ use Rattle.zone.specs.declared.ZoneReply.{ZoneReply}
 use Rattle.zone.specs.Replies.{reply, zoneCheckOf, ZoneOutcome, zoneOutcome, zoneBuildOf, zoneOpenOf, zoneLookupOf}
 use Rattle.demands.specs.Terms.{ExactlyOne, DoneWhere, Never, Built, Holds, Touches, GoodSheet, Opens, boundsOver, KeepsLimit, CanBuild, CanLookUp, Truthful, NoTouch}
 use Rattle.demands.specs.Table.{Table}
-use Rattle.demands.specs.Rows.{AllHold, elevenRows}
+use Rattle.demands.specs.Rows.{AllHold, elevenRows, limitRows}
 use Rattle.demands.specs.Row11.{buildWithRow11}
 
 -- 1. Every sheet, root cube, depth, map and position gets an answer. A bad one gets the refusal in document 01, in its stated order, without any check by the
@@ -100,10 +100,11 @@ pub record Reply11 : Type 0 where
   pub never : (sheet map before : List ℕ) (root : Root) (p : Point)
       → Never 11 (zoneCheckOf sheet) × Never 11 (zoneBuildOf sheet root before .reply) × Never 11 (zoneOpenOf map) × Never 11 (zoneLookupOf sheet map p)
 
--- the three demands, the eleven rows marked P, and what the requests ask for
+-- the three demands, the eleven rows marked P, that of the limit with both ends (request 2026-04), and what request 2026-11 asks for
 pub record Demands : Type 0 where
   pub first : Demand1
   pub second : Demand2
   pub third : Demand3
   pub rows : AllHold elevenRows
+  pub limit-rows : AllHold limitRows
   pub reply-11 : Reply11

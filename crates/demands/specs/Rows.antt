@@ -1,12 +1,12 @@
--- The eleven rows of document 01 that are marked P, as one list.
+-- Worked rows of document 01, as lists: the eleven that are marked P, and that of the limit with both ends.
 use mathlib.Core.Path.{_≡_}
 use mathlib.Core.List.{List, [], _∷_, _++_}
-use Prim.Native.Nat.{ℕ, _≤_}
+use Prim.Native.Nat.{ℕ, _+_, _^_, _≤_}
 use lib.IntN.{ℤ, pos, negsuc}
 use lib.ListN.{length, drop}
 use Rattle.interval.specs.Rules.{from}
 use Rattle.sheet.specs.declared.Record.{Record}
-use Rattle.sheet.specs.declared.Record.the-variants.{Constant, X, Difference, Product, Square, Face}
+use Rattle.sheet.specs.declared.Record.the-variants.{Constant, X, Sum, Difference, Product, Square, Face}
 use Rattle.sheet.specs.Records.{recordsOf}
 use Rattle.sheet.specs.StepRoom.{stepSheet}
 use Rattle.cube.specs.declared.Root.{Root}
@@ -22,7 +22,7 @@ use Rattle.zonemap.specs.StepRoom.{stepRoot, stepMap}
 use Rattle.tree.specs.Solid.{solidState}
 use Rattle.lookup.specs.Lookup.{leafHolding}
 use Rattle.zone.specs.Replies.{reply, zoneOutcome, zoneBuildOf, zoneLookupOf}
-use Rattle.demands.specs.Terms.{boundsOver}
+use Rattle.demands.specs.Terms.{GoodSheet, boundsOver, KeepsLimit}
 
 -- one claim for a list of statements: all of them hold
 unfoldable pub AllHold : List (Type 0) → Type 0
@@ -79,4 +79,28 @@ elevenRows =
     -- a sheet whose only logical record is a face, Single over the root, gives one leaf at any depth: level 0, class 2, that face.
     ∷ ((sheet : List ℕ) (rs : List Record) (a : ℕ) (root : Root) (out : List ℕ) → recordsOf sheet ≡ rs ++ Face a ∷ [] → solidState (rs ++ Face a ∷ []) (rootCube root) ≡ Single (length rs)
     → zoneBuildOf sheet root out .reply .code ≡ 0 → zoneBuildOf sheet root out ≡ zoneOutcome (reply 0 22) (mapOf root (leaf 0 2 (length rs) ∷ []) ++ drop 22 out))
+    ∷ []
+
+-- the root of side 1 whose low corner is (low, 0, 0)
+abbrev pub unit : ℤ → Root
+unit low = record { x = low; y = pos 0; z = pos 0; k = 0; d = 0 }
+
+-- zone_build over it, for any sheet with these records, returns 7 with this number and leaves the buffer as it was
+abbrev Refuses7 : ℤ → List Record → ℕ → Type 0
+Refuses7 low rs number = (sheet before : List ℕ) → GoodSheet sheet → recordsOf sheet ≡ rs → zoneBuildOf sheet (unit low) before ≡ zoneOutcome (reply 7 number) before
+
+-- x, its square, and the square times x
+abbrev pub cubed : List Record
+cubed = X ∷ Square 0 ∷ Product 1 0 ∷ []
+
+abbrev pub limitRows : List (Type 0)
+limitRows =
+    -- Low corner (1048575,0,0), k 0: records x, its square, square times x, then a face: 2^60 is reached and accepted.
+    ((boundsOver (cubed ++ Face 2 ∷ []) (rootCube (unit (pos 1048575))) 2 .high ≡ pos (2 ^ 60)) × KeepsLimit (cubed ++ Face 2 ∷ []) (rootCube (unit (pos 1048575))))
+    -- With x added to the third as record 3, and a face of record 3 after it: 7 with 7. (It was 7 with 3 before request 2026-04.)
+    ∷ Refuses7 (pos 1048575) (cubed ++ Sum 2 0 ∷ Face 3 ∷ []) 7
+    -- the same records at the low corner (-1048576,0,0): the low end of record 3 passes -2^60, its high end does not
+    ∷ Refuses7 (negsuc 1048575) (cubed ++ Sum 2 0 ∷ Face 3 ∷ []) 6
+    -- a square that is above 2^60 all over the root: its low end lies outside
+    ∷ Refuses7 (pos 0) (Constant (pos (2 ^ 30 + 1)) ∷ Square 0 ∷ Face 1 ∷ []) 2
     ∷ []

@@ -4,7 +4,9 @@ use mathlib.Core.Path.{_≡_}
 use mathlib.Core.Bool.{Bool, true, false}
 use mathlib.Core.List.{List, [], _∷_}
 use Prim.Native.Nat.{ℕ, _+_, _*_, _^_, _≤_, _<_}
+use lib.IntN.{natAbs}
 use lib.ListN.{length, getD}
+use Rattle.sheet.specs.declared.Record.{Record}
 use Rattle.sheet.specs.declared.Sort.the-variants.{Logical}
 use Rattle.sheet.specs.Records.{recordsOf, stopOf}
 use Rattle.sheet.specs.Operands.{firstUnmet, lastSort}
@@ -15,12 +17,12 @@ use Rattle.cube.specs.declared.Point.{Point}
 use Rattle.cube.specs.Limits.{WithinLimits}
 use Rattle.cube.specs.Cubes.{rootCube}
 use Rattle.cube.specs.Points.{InRoot}
-use Rattle.colour.specs.Entries.{firstPast}
 use Rattle.zonemap.specs.Opening.{lengthGood, rootOf, leavesOf, faultOf, anyFace}
 use Rattle.zonemap.specs.Leaves.{nthPlace}
 use Rattle.building.specs.Build.{builtMap}
+use Rattle.zone.specs.declared.ZoneReply.{ZoneReply}
 use Rattle.zone.specs.Replies.{reply, zoneCheckOf, zoneBuildOf, zoneOpenOf, zoneLookupOf}
-use Rattle.demands.specs.Terms.{GoodSheet, GoodLeaf, Opens, KeepsLimit}
+use Rattle.demands.specs.Terms.{GoodSheet, GoodLeaf, Opens, boundsOver, KeepBefore, KeepsLimit}
 
 -- for any sheet
 pub record SheetRows (sheet : List ℕ) : Type 0 where
@@ -37,12 +39,19 @@ pub record SheetRows (sheet : List ℕ) : Type 0 where
   pub row-5 : lengthFails sheet ≡ false → getD sheet 2 0 ≡ 1 → length sheet ≤ stopOf sheet → firstUnmet [] (recordsOf sheet) ≡ length (recordsOf sheet)
       → (lastSort (recordsOf sheet) ≡ Logical → ⊥) → zoneCheckOf sheet ≡ reply 5 (length (recordsOf sheet))
 
+-- row 7, by request 2026-04, of the reply r for a root: n is the first record whose bounds over the root pass 2^60. The number is twice n, plus 1 for the high
+-- end: the low end counts if it lies outside -2^60 to 2^60, on either side, otherwise the high end.
+pub record Row7 (rs : List Record) (root : Root) (r : ZoneReply) : Type 0 where
+  pub low : (n : ℕ) → KeepBefore rs (rootCube root) n → 2 ^ 60 < natAbs (boundsOver rs (rootCube root) n .low) → r ≡ reply 7 (2 * n)
+  pub high : (n : ℕ) → KeepBefore rs (rootCube root) n → natAbs (boundsOver rs (rootCube root) n .low) ≤ 2 ^ 60 → 2 ^ 60 < natAbs (boundsOver rs (rootCube root) n .high)
+      → r ≡ reply 7 (2 * n + 1)
+
 -- for a good sheet, zone_build
 pub record BuildRows (sheet : List ℕ) (good : GoodSheet sheet) (root : Root) (before : List ℕ) : Type 0 where
   -- root or depth out of limits
   pub row-6 : (WithinLimits root → ⊥) → zoneBuildOf sheet root before .reply ≡ reply 6 0
-  -- a record's bounds over the root pass 2^60: the first such record
-  pub row-7 : WithinLimits root → (n : ℕ) → firstPast (recordsOf sheet) (rootCube root) ≡ n ∷ [] → zoneBuildOf sheet root before .reply ≡ reply 7 n
+  -- a record's bounds over the root pass 2^60: the first such record, and its end
+  pub row-7 : WithinLimits root → Row7 (recordsOf sheet) root (zoneBuildOf sheet root before .reply)
   -- lent buffer shorter than the map: bytes needed
   pub row-8 : WithinLimits root → KeepsLimit (recordsOf sheet) (rootCube root) → length before < length (builtMap (recordsOf sheet) root)
       → zoneBuildOf sheet root before .reply ≡ reply 8 (length (builtMap (recordsOf sheet) root))
@@ -51,8 +60,8 @@ pub record BuildRows (sheet : List ℕ) (good : GoodSheet sheet) (root : Root) (
 pub record LookupRows (sheet : List ℕ) (good : GoodSheet sheet) (map : List ℕ) (p : Point) : Type 0 where
   -- map doesn't open, or a terminal leaf names a record that isn't a face of the sheet: the offset of the first fault
   pub row-9 : (at : ℕ) → faultOf (hasFace (recordsOf sheet)) map ≡ at ∷ [] → zoneLookupOf sheet map p ≡ reply 9 at
-  -- a record's bounds over the root pass 2^60: the first such record
-  pub row-7 : Opens (hasFace (recordsOf sheet)) map → (n : ℕ) → firstPast (recordsOf sheet) (rootCube (rootOf map)) ≡ n ∷ [] → zoneLookupOf sheet map p ≡ reply 7 n
+  -- a record's bounds over the root pass 2^60: the first such record, and its end
+  pub row-7 : Opens (hasFace (recordsOf sheet)) map → Row7 (recordsOf sheet) (rootOf map) (zoneLookupOf sheet map p)
   -- point not in the root, high planes left out
   pub row-10 : Opens (hasFace (recordsOf sheet)) map → KeepsLimit (recordsOf sheet) (rootCube (rootOf map)) → (InRoot (rootOf map) p → ⊥) → zoneLookupOf sheet map p ≡ reply 10 0
 

@@ -105,7 +105,11 @@ pub record Opens (named : ℕ → Bool) (map : List ℕ) : Type 0 where
 abbrev pub boundsOver : List Record → Cube → ℕ → Interval
 boundsOver rs q i = getD (entries q rs) i blank .bounds
 
--- row 7: each record's bounds over a cube lie in -2^60 to 2^60
+-- row 7: the bounds of each record before record n over a cube lie in -2^60 to 2^60
+abbrev pub KeepBefore : List Record → Cube → ℕ → Type 0
+KeepBefore rs q n = (i : ℕ) → i < n → SmallEnds (boundsOver rs q i)
+
+-- and those of every record
 abbrev pub KeepsLimit : List Record → Cube → Type 0
 KeepsLimit rs q = (i : ℕ) → SmallEnds (boundsOver rs q i)
 

@@ -13,7 +13,7 @@ use Rattle.integers.proofs.Naturals.{ints, abs-is, abs-+, abs-minus}
 use Rattle.integers.proofs.Order.{by-test}
 use Rattle.integers.proofs.Machine.{fits, back, result-fits, result-back}
 use Rattle.interval.specs.Rules.{from}
-use Rattle.interval.specs.Limit.{isSmall, isWithin, boundedOf}
+use Rattle.interval.specs.Limit.{isSmall, pastEnd, boundedOf}
 use Rattle.interval.specs.Inner.{clampOf}
 
 -- ---- the test of a number
@@ -91,9 +91,9 @@ unfolding isSmall
 clamp-small z =
     clamp-cases (λ x. isSmall x ≡ isSmall z) z (λ s t. refl) (λ s. sym (large-test z (omega (arith, ints, abs-is z)))) (λ s. sym (large-test z (omega (arith, ints, abs-is z))))
 
--- an interval may be tested against the limit with its ends clamped
+-- an interval may be tested against the limit with its ends clamped: it is the same interval, or the same end is past
 pub bounded-clamped : (l h : ℤ) → boundedOf (from (clampOf l) (clampOf h)) ≡ boundedOf (from l h)
-unfolding boundedOf isWithin
+unfolding boundedOf pastEnd
 bounded-clamped l h =
     by-test (isSmall l)
     (λ s. by-test (isSmall h) (λ t. rw (clamp-same l s, clamp-same h t)) (λ t. rw (clamp-small l, clamp-small h, s, t)))

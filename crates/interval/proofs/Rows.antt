@@ -4,7 +4,8 @@ use Prim.Native.Nat.{ℕ, _+_, _-_, _^_}
 use lib.IntN.{ℤ, pos, negℤ}
 use Rattle.integers.specs.Least.{lesserOf, greaterOf}
 use Rattle.interval.specs.Rules.{from, only, span, sum, difference, product, square}
-use Rattle.interval.specs.Limit.{isSmall, isWithin, boundedOf}
+use Rattle.interval.specs.Limit.{isSmall, pastEnd, boundedOf}
+use Rattle.replies.specs.declared.End.the-variants.{Low, High}
 use Rattle.interval.specs.declared.Bounded.the-variants.{Within, Past}
 
 abbrev minus : ℕ → ℤ
@@ -65,31 +66,52 @@ rule-rows = record {
 
 record LimitRows : Type 0 where
   greatest-end : boundedOf (only (pos (2 ^ 60))) ≡ Within (only (pos (2 ^ 60)))
-  past-greatest : boundedOf (from (pos 0) (pos (2 ^ 60 + 1))) ≡ Past
+  past-greatest : boundedOf (from (pos 0) (pos (2 ^ 60 + 1))) ≡ Past High
   least-end : boundedOf (only (minus (2 ^ 60))) ≡ Within (only (minus (2 ^ 60)))
-  past-least : boundedOf (from (minus (2 ^ 60 + 1)) (pos 0)) ≡ Past
+  past-least : boundedOf (from (minus (2 ^ 60 + 1)) (pos 0)) ≡ Past Low
+  whole-limit : boundedOf (from (minus (2 ^ 60)) (pos (2 ^ 60))) ≡ Within (from (minus (2 ^ 60)) (pos (2 ^ 60)))
+  -- the low end counts first
+  past-both : boundedOf (from (minus (2 ^ 60 + 1)) (pos (2 ^ 60 + 1))) ≡ Past Low
+  -- and it is outside above 2^60 as well as below -2^60
+  all-above : boundedOf (from (pos (2 ^ 60 + 1)) (pos (2 ^ 60 + 2))) ≡ Past Low
+  all-below : boundedOf (from (minus (2 ^ 60 + 2)) (minus (2 ^ 60 + 1))) ≡ Past Low
+  from-limit-up : boundedOf (from (pos (2 ^ 60)) (pos (2 ^ 60 + 1))) ≡ Past High
+  up-to-limit : boundedOf (from (minus (2 ^ 60 + 1)) (pos (2 ^ 60))) ≡ Past Low
+  -- an operand's other end makes the record pass
+  past-by-high-end : boundedOf (difference (only (minus 1)) (from (pos 0) (pos (2 ^ 60)))) ≡ Past Low
+  past-by-turned-end : boundedOf (product (from (minus 2) (minus 1)) (only (minus (2 ^ 60)))) ≡ Past High
+  past-by-low-end : boundedOf (square (from (minus (2 ^ 30 + 1)) (minus (2 ^ 30)))) ≡ Past High
   sum-to-limit : boundedOf (sum (only (pos (2 ^ 59))) (only (pos (2 ^ 59)))) ≡ Within (only (pos (2 ^ 60)))
   square-to-limit : boundedOf (square (only (pos (2 ^ 30)))) ≡ Within (only (pos (2 ^ 60)))
-  square-past-limit : boundedOf (square (only (pos (2 ^ 30 + 1)))) ≡ Past
+  square-past-limit : boundedOf (square (only (pos (2 ^ 30 + 1)))) ≡ Past Low
   product-to-limit : boundedOf (product (only (pos (2 ^ 40))) (only (pos (2 ^ 20)))) ≡ Within (only (pos (2 ^ 60)))
-  product-past-limit : boundedOf (product (only (pos (2 ^ 40 + 1))) (only (pos (2 ^ 20)))) ≡ Past
+  product-past-limit : boundedOf (product (only (pos (2 ^ 40 + 1))) (only (pos (2 ^ 20)))) ≡ Past Low
   -- (2^30 - 1)(2^30 + 1) = 2^60 - 1, and 4562284561 × 252707057 = 2^60 + 1
   product-before-limit : boundedOf (product (only (pos (2 ^ 30 - 1))) (only (pos (2 ^ 30 + 1)))) ≡ Within (only (pos (2 ^ 60 - 1)))
-  product-past-by-one : boundedOf (product (only (pos 4562284561)) (only (pos 252707057))) ≡ Past
+  product-past-by-one : boundedOf (product (only (pos 4562284561)) (only (pos 252707057))) ≡ Past Low
   product-to-least : boundedOf (product (only (minus (2 ^ 30))) (only (pos (2 ^ 30)))) ≡ Within (only (minus (2 ^ 60)))
-  product-past-least-by-one : boundedOf (product (only (minus 4562284561)) (only (pos 252707057))) ≡ Past
+  product-past-least-by-one : boundedOf (product (only (minus 4562284561)) (only (pos 252707057))) ≡ Past Low
   across-to-limit : boundedOf (product (from (minus (2 ^ 30)) (pos (2 ^ 30))) (from (minus (2 ^ 30)) (pos (2 ^ 30)))) ≡ Within (from (minus (2 ^ 60)) (pos (2 ^ 60)))
-  across-past-limit : boundedOf (product (from (minus (2 ^ 30)) (pos 4562284561)) (from (minus (2 ^ 20)) (pos 252707057))) ≡ Past
+  across-past-limit : boundedOf (product (from (minus (2 ^ 30)) (pos 4562284561)) (from (minus (2 ^ 20)) (pos 252707057))) ≡ Past High
   zero-of-limit : boundedOf (product (only (pos 0)) (only (pos (2 ^ 60)))) ≡ Within (only (pos 0))
   turned-limit : boundedOf (product (only (minus (2 ^ 60))) (only (minus 1))) ≡ Within (only (pos (2 ^ 60)))
 
 limit-rows : LimitRows
-unfolding sum span product square lesserOf greaterOf isSmall isWithin boundedOf
+unfolding sum difference span product square lesserOf greaterOf isSmall pastEnd boundedOf
 limit-rows = record {
   greatest-end = refl;
   past-greatest = refl;
   least-end = refl;
   past-least = refl;
+  whole-limit = refl;
+  past-both = refl;
+  all-above = refl;
+  all-below = refl;
+  from-limit-up = refl;
+  up-to-limit = refl;
+  past-by-high-end = refl;
+  past-by-turned-end = refl;
+  past-by-low-end = refl;
   sum-to-limit = refl;
   square-to-limit = refl;
   square-past-limit = refl;

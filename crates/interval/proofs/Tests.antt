@@ -1,10 +1,10 @@
--- Facts for the proofs of `is_small`, `is_short`, `is_within`, `limited`, `lesser` and `greater`, in the form that the proofs need: the machine reads a number back
+-- Facts for the proofs of `is_small`, `is_short`, `limited`, `lesser` and `greater`, in the form that the proofs need: the machine reads a number back
 -- from its bits.
 use mathlib.Core.Path.{_≡_, refl, sym, ap₂, _∙_}
-use mathlib.Core.Bool.{Bool, true, false, cond, _&&_}
+use mathlib.Core.Bool.{Bool, true, false, cond, not, _&&_}
 use Prim.Native.Nat.{ℕ, suc, _<_, _^_}
 use native.Mathlib.Omega.{arith}
-use borrow.Author.Tests.{leb-true, leb-false, le-leb, lt-leb}
+use borrow.Author.Tests.{leb-true, leb-false, le-leb, lt-leb, not-true, not-false}
 use lib.Dec.{leb}
 use lib.IntN.{ℤ, pos, negsuc, natAbs}
 use lib.Signed.{mag, leZ}
@@ -13,10 +13,7 @@ use mir.Val.{SFits, toZ, ofZ}
 use mir.Facts.{toZ-ofZ}
 use Rattle.integers.specs.Least.{lesserOf, greaterOf}
 use Rattle.integers.proofs.Machine.{again}
-use Rattle.interval.specs.Limit.{isSmall, isWithin, boundedOf}
-use Rattle.interval.specs.declared.Interval.{Interval}
-use Rattle.interval.specs.declared.Bounded.the-variants.{Within, Past}
-use Rattle.interval.proofs.Facts.{bounded-within, bounded-past}
+use Rattle.interval.specs.Limit.{isSmall}
 
 -- ---- is_small and is_short: the two tests together are the test of the magnitude
 module _ (n : ℕ) where
@@ -46,17 +43,13 @@ and-first b x y e t = rw (sym e, t)
 pub and-second : (b d x y : Bool) → b ≡ x → b ≡ true → d ≡ y → d ≡ (x && y)
 and-second b d x y e t f = rw (sym e, t) f
 
--- ---- is_within: b is what a call of `is_small` returned
-pub small-told : (b : Bool) (z : ℤ) → SFits w64 z → b ≡ isSmall (toZ w64 (ofZ w64 z)) → b ≡ isSmall z
-small-told b z f e = rw (toZ-ofZ f) at e
+-- ---- limited: b is what a call of `is_small` returned
+module _ (b : Bool) (z : ℤ) where
+  pub told-large : not b ≡ true → SFits w64 z → b ≡ isSmall (toZ w64 (ofZ w64 z)) → isSmall z ≡ false
+  told-large t f e = sym (rw (toZ-ofZ f) at e) ∙ not-true b t
 
--- ---- limited
-module _ (i : Interval) (b : Bool) (e : b ≡ isWithin i) where
-  pub limited-within : b ≡ true → Within i ≡ boundedOf i
-  limited-within t = sym (bounded-within i (sym e ∙ t))
-
-  pub limited-past : b ≡ false → Past ≡ boundedOf i
-  limited-past t = sym (bounded-past i (sym e ∙ t))
+  pub told-small : not b ≡ false → SFits w64 z → b ≡ isSmall (toZ w64 (ofZ w64 z)) → isSmall z ≡ true
+  told-small t f e = sym (rw (toZ-ofZ f) at e) ∙ not-false b t
 
 -- ---- lesser and greater: x or y, by the order of a and b
 module _ (a b x y : ℤ) (fa : SFits w64 a) (fb : SFits w64 b) where

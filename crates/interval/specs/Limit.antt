@@ -1,9 +1,13 @@
 -- The limit: an end lies in -2^60 to 2^60.
-use mathlib.Core.Bool.{Bool, cond, _&&_}
+use mathlib.Core.Bool.{Bool, cond}
+use mathlib.Core.List.{List, [], _∷_}
 use Prim.Native.Nat.{_≤_, _^_}
 use lib.Dec.{leb}
 use lib.IntN.{ℤ, natAbs}
+use Rattle.integers.specs.First.{onFirst}
 use Rattle.interval.specs.declared.Interval.{Interval}
+use Rattle.replies.specs.declared.End.{End}
+use Rattle.replies.specs.declared.End.the-variants.{Low, High}
 use Rattle.interval.specs.declared.Bounded.{Bounded}
 use Rattle.interval.specs.declared.Bounded.the-variants.{Within, Past}
 
@@ -11,15 +15,15 @@ use Rattle.interval.specs.declared.Bounded.the-variants.{Within, Past}
 unfoldable pub isSmall : ℤ → Bool
 isSmall z = leb (natAbs z) (2 ^ 60)
 
--- both ends do
-unfoldable pub isWithin : Interval → Bool
-isWithin i = isSmall (i .low) && isSmall (i .high)
+-- the one test of an interval against the limit: the end outside -2^60 to 2^60, if one is; the low end if it is, otherwise the high end
+unfoldable pub pastEnd : Interval → List End
+pastEnd i = cond (isSmall (i .low)) (cond (isSmall (i .high)) [] (High ∷ [])) (Low ∷ [])
 
--- the one test of an interval against the limit
+-- the interval, or the end past the limit
 unfoldable pub boundedOf : Interval → Bounded
-boundedOf i = cond (isWithin i) (Within i) Past
+boundedOf i = onFirst (pastEnd i) Past (Within i)
 
--- both ends do, as an operation requires of its operands
+-- both ends lie in -2^60 to 2^60, as an operation requires of its operands
 pub record SmallEnds (i : Interval) : Type 0 where
   pub low : natAbs (i .low) ≤ 2 ^ 60
   pub high : natAbs (i .high) ≤ 2 ^ 60

@@ -7,8 +7,9 @@ ghost use lib.Dec.{leb};
 ghost use lib.IntN.{natAbs, _*ℤ_};
 ghost use Rattle.integers.specs.Least.{lesserOf, greaterOf};
 ghost use Rattle.interval.specs.Rules.{sum, difference, product, square};
-ghost use Rattle.interval.specs.Limit.{SmallEnds, isSmall, isWithin, boundedOf};
+ghost use Rattle.interval.specs.Limit.{SmallEnds, isSmall, boundedOf};
 ghost use Rattle.interval.specs.Inner.{OrderedEnds, isAcross, bothAcross, clampOf, clamped, orderedOf, leastFactor, greatestFactor};
+use replies::End;
 
 // The limit: the greatest end, the least end, and the greatest magnitude.
 const GREATEST: i64 = 1152921504606846976;
@@ -25,10 +26,10 @@ pub struct Interval {
     pub high: i64,
 }
 
-// An interval with both ends within the limit, or Past if an end is not.
+// An interval with both ends within the limit, or the end past it: the low one if it is, otherwise the high one.
 pub enum Bounded {
     Within(Interval),
-    Past,
+    Past(End),
 }
 
 // Whether x lies in -2^60 to 2^60.
@@ -96,21 +97,17 @@ fn greater(a: i64, b: i64) -> i64
 }
 
 impl Interval {
-    // Whether both ends lie within the limit.
-    fn is_within(self) -> bool
-        ensures { λ r. ⌜ r ≡ isWithin self ⌝ }
-    {
-        is_small(self.low) && is_small(self.high)
-    }
-
-    // The interval if both its ends lie within the limit, otherwise Past.
+    // The interval if both its ends lie within the limit, otherwise the end past it, of which the low one counts first.
     pub fn limited(self) -> Bounded
         ensures { λ r. ⌜ r ≡ boundedOf self ⌝ }
     {
-        if self.is_within() {
-            return Bounded::Within(self);
+        if !is_small(self.low) {
+            return Bounded::Past(End::Low);
         }
-        Bounded::Past
+        if !is_small(self.high) {
+            return Bounded::Past(End::High);
+        }
+        Bounded::Within(self)
     }
 
     pub fn sum(self, other: Interval) -> Bounded

@@ -6,7 +6,7 @@ use Prim.Native.Nat.{ℕ}
 use lib.IntN.{pos}
 use Rattle.bigendian.specs.Numbers.{unsignedAt, signed32}
 use Rattle.interval.specs.Rules.{difference}
-use Rattle.interval.specs.Limit.{isSmall, isWithin}
+use Rattle.interval.specs.Limit.{isSmall, pastEnd}
 use Rattle.replies.specs.declared.Refusal.the-variants.{NotInRoot}
 use Rattle.sheet.specs.Along.{along, onward}
 use Rattle.sheet.specs.StepRoom.{stepSheet, stepRecords}
@@ -37,7 +37,7 @@ opens = refl
 
 -- no record passes the limit over its root
 none : firstPast stepRecords (rootCube (rootOf stepMap)) ≡ []
-unfolding firstPast pastFrom along onward entryOf faceBounds boundsOf across difference isWithin isSmall stateOf faceState joinedBy otherwiseOf rootCube rootOf unsignedAt signed32
+unfolding firstPast pastFrom along onward entryOf faceBounds boundsOf across difference pastEnd isSmall stateOf faceState joinedBy otherwiseOf rootCube rootOf unsignedAt signed32
 none = refl
 
 -- so a point is outside the root, or its leaf decides

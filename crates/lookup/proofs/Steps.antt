@@ -9,6 +9,7 @@ use mir.Syntax.{w32}
 use mir.Val.{SFits}
 use Rattle.integers.proofs.First.{bad-first}
 use Rattle.replies.specs.declared.Refusal.{Refusal}
+use Rattle.replies.specs.declared.Over.{Over}
 use Rattle.replies.specs.declared.Refusal.the-variants.{OverRoot, NotInRoot}
 use Rattle.replies.specs.declared.Reply.the-variants.{Done as Counts, Refused as Refuses}
 use Rattle.sheet.specs.declared.Record.{Record}
@@ -56,9 +57,9 @@ module _ (s map : List ℕ) (none : pairRefusal s map ≡ []) (p : Point) (pair 
 
   -- ---- reply 7: j is what `judge` returned
   module _ (f : ℕ) (j : Judged) (e : j ≡ judgedOf (recordsOf s) q f) where
-    pub over-limit : (n : ℕ) → j ≡ Past n → Refused (OverRoot n) ≡ lookupOf s map p
+    pub over-limit : (o : Over) → j ≡ Past o → Refused (OverRoot o) ≡ lookupOf s map p
     unfolding lookupOf
-    over-limit n h = rw (none, ← root-is, past-first (recordsOf s) (rootCube (pair .root)) q top f j e n h)
+    over-limit o h = rw (none, ← root-is, past-first (recordsOf s) (rootCube (pair .root)) q top f j e o h)
 
     module _ (state : State) (h : j ≡ Known state) where
       pub within-limit : firstPast (recordsOf s) (rootCube (pair .root)) ≡ []
@@ -102,8 +103,8 @@ module _ (rs : List Record) (root : Root) (p : Point) (h : Judgeable rs root p) 
     face-known state b k g = g ∙ ap isIn (known-is rs (pointCube p) q is f j e state k)
 
     -- so the other case cannot occur
-    pub face-past : (n : ℕ) → j ≡ Past n → (b : Bool) → b ≡ faceHolds rs f p
-    face-past n k b = let z : [] ≡ n ∷ [] = sym none-there ∙ past-first rs (pointCube p) q is f j e n k in let y : _≡_ {A = ℕ} 0 1 = cc in absurd (omega arith)
+    pub face-past : (o : Over) → j ≡ Past o → (b : Bool) → b ≡ faceHolds rs f p
+    face-past o k b = let z : [] ≡ o ∷ [] = sym none-there ∙ past-first rs (pointCube p) q is f j e o k in let y : _≡_ {A = ℕ} 0 1 = cc in absurd (omega arith)
 
 -- ---- the answer of a terminal leaf
 module _ (rs : List Record) (l : Leaf) (p : Point) where

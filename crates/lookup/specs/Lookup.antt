@@ -51,7 +51,7 @@ pointReply rs map p = cond (not (holdsPoint (rootCube (rootOf map)) p)) (Refused
 unfoldable pub lookupOf : List ℕ → List ℕ → Point → Reply
 lookupOf s map p =
     onFirst (pairRefusal s map) Refused
-    (onFirst (firstPast (recordsOf s) (rootCube (rootOf map))) (λ n. Refused (OverRoot n))
+    (onFirst (firstPast (recordsOf s) (rootCube (rootOf map))) (λ o. Refused (OverRoot o))
     (pointReply (recordsOf s) map p))
 
 -- lookup: 0 outside, 1 inside, 2 undecided

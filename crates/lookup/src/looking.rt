@@ -47,8 +47,8 @@ fn over_root(sheet: &[u8], map: &[u8], pair: Pair, p: Point) -> Reply
         Judged::Known(_) => {
             return at_point(sheet, &offsets, map, pair, p);
         }
-        Judged::Past(n) => {
-            return Reply::Refused(Refusal::OverRoot(n));
+        Judged::Past(over) => {
+            return Reply::Refused(Refusal::OverRoot(over));
         }
     }
 }

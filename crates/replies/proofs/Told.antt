@@ -23,7 +23,7 @@ refusal-may (Operand n) = refl
 refusal-may (Solid n) = refl
 refusal-may Limits = refl
 refusal-may (Map at) = refl
-refusal-may (OverRoot n) = refl
+refusal-may (OverRoot over) = refl
 refusal-may (Short n) = refl
 refusal-may NotInRoot = refl
 

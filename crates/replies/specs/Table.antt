@@ -1,6 +1,9 @@
 -- The table of replies: the code of each refusal, and the number returned with it, in the order of test.
-use Prim.Native.Nat.{ℕ}
+use Prim.Native.Nat.{ℕ, _+_, _*_}
 use mathlib.Core.List.{List, [], _∷_}
+use Rattle.replies.specs.declared.End.{End}
+use Rattle.replies.specs.declared.End.the-variants.{Low, High}
+use Rattle.replies.specs.declared.Over.{Over}
 use Rattle.replies.specs.declared.Refusal.{Refusal}
 use Rattle.replies.specs.declared.Refusal.the-variants.{Length, Version, Record, Operand, Solid, Limits, Map, OverRoot, Short, NotInRoot}
 use Rattle.replies.specs.declared.Reply.{Reply}
@@ -14,9 +17,21 @@ codeOf (Operand n) = 4
 codeOf (Solid n) = 5
 codeOf Limits = 6
 codeOf (Map at) = 9
-codeOf (OverRoot n) = 7
+codeOf (OverRoot o) = 7
 codeOf (Short n) = 8
 codeOf NotInRoot = 10
+
+-- record n with the end of its bounds that passes the limit
+abbrev pub over : ℕ → End → Over
+over n end = record { index = n; end = end }
+
+-- twice the record's number, plus 1 for the high end
+abbrev pub endNumber : End → ℕ
+endNumber Low = 0
+endNumber High = 1
+
+abbrev pub overNumber : Over → ℕ
+overNumber o = 2 * o .index + endNumber (o .end)
 
 abbrev pub numberOf : Refusal → ℕ
 numberOf Length = 0
@@ -26,7 +41,7 @@ numberOf (Operand n) = n
 numberOf (Solid n) = n
 numberOf Limits = 0
 numberOf (Map at) = at
-numberOf (OverRoot n) = n
+numberOf (OverRoot o) = overNumber o
 numberOf (Short n) = n
 numberOf NotInRoot = 0
 

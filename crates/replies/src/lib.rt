@@ -1,7 +1,19 @@
 // Document 01's table of replies: why a call refuses, with the code and the number of each refusal.
 
 ghost use mathlib.Core.Path.{_≡_};
-ghost use Rattle.replies.specs.Table.{codeOf, numberOf};
+ghost use Rattle.replies.specs.Table.{codeOf, overNumber, numberOf};
+
+// An end of a record's bounds.
+pub enum End {
+    Low,
+    High,
+}
+
+// A record whose bounds pass the limit, and the end that does.
+pub struct Over {
+    pub index: u8,
+    pub end: End,
+}
 
 // Why a call refuses, in the order of test. Code 11 was dropped, and no refusal may take it.
 pub enum Refusal {
@@ -12,7 +24,7 @@ pub enum Refusal {
     Solid(usize),
     Limits,
     Map(usize),
-    OverRoot(usize),
+    OverRoot(Over),
     Short(usize),
     NotInRoot,
 }
@@ -21,6 +33,20 @@ pub enum Refusal {
 pub enum Reply {
     Done(usize),
     Refused(Refusal),
+}
+
+impl Over {
+    // Twice the record's number, plus 1 for the high end.
+    fn number(self) -> usize
+        ensures { λ r. ⌜ r ≡ overNumber self ⌝ }
+    {
+        let twice = 2 * self.index as usize;
+        let end = self.end;
+        match end {
+            End::Low => twice,
+            End::High => twice + 1,
+        }
+    }
 }
 
 impl Refusal {
@@ -52,7 +78,7 @@ impl Refusal {
             Refusal::Solid(n) => n,
             Refusal::Limits => 0,
             Refusal::Map(at) => at,
-            Refusal::OverRoot(n) => n,
+            Refusal::OverRoot(over) => over.number(),
             Refusal::Short(n) => n,
             Refusal::NotInRoot => 0,
         }

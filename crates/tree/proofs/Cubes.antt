@@ -8,6 +8,7 @@ use native.Mathlib.Omega.{arith}
 use borrow.Author.Tests.{not-true, not-false, eqb-true, eqb-false, ne-eqb}
 use lib.Dec.{eqb}
 use lib.ListN.{length, getD}
+use Rattle.replies.specs.declared.Over.{Over}
 use Rattle.sheet.specs.declared.Record.{Record}
 use Rattle.cube.specs.declared.Cube.{Cube}
 use Rattle.cube.specs.Limits.{Near}
@@ -71,9 +72,9 @@ module _ (rs : List Record) where
         known-is rs q q refl solid j e state k ∙ ap (λ (n : ℕ). getD (entries q rs) n blank .state) (let z : solid ≡ length rs - 1 = omega arith in z)
 
     -- so the other case cannot occur
-    pub not-past : firstPast rs q ≡ [] → (n : ℕ) → j ≡ Past n → (state : State) → state ≡ solidState rs q
-    not-past none n k state =
-        let z : [] ≡ n ∷ [] = sym none ∙ past-first rs q q refl solid j e n k in
+    pub not-past : firstPast rs q ≡ [] → (o : Over) → j ≡ Past o → (state : State) → state ≡ solidState rs q
+    not-past none o k state =
+        let z : [] ≡ o ∷ [] = sym none ∙ past-first rs q q refl solid j e o k in
         let y : _≡_ {A = ℕ} 0 1 = ap length z in absurd (omega arith)
 
   -- its class says whether it is split

@@ -1,5 +1,6 @@
 //! A case: one request to the server, and its outcome.
 
+use paper::map::{self, HEADER};
 use paper::root::Root;
 use paper::Reply;
 
@@ -123,6 +124,16 @@ impl Case {
             Case::Open(lent) => Some(&lent.bytes),
             Case::Lookup(lookup) => Some(&lookup.map),
         }
+    }
+
+    /// The root that bounds are worked out over, if the call has one and it is in limits.
+    pub fn root(&self) -> Option<Root> {
+        let root = match self {
+            Case::Check(_) | Case::Open(_) => None,
+            Case::Build(build) => Some(build.root),
+            Case::Lookup(lookup) => lookup.map.get(..HEADER).map(map::root),
+        };
+        root.filter(Root::in_limits)
     }
 
     pub fn out_len(&self) -> usize {

@@ -4,8 +4,9 @@ use crate::alone;
 use crate::builds;
 use crate::case::{Call, Case, CALLS};
 use crate::demand3_run::{self, Found};
+use crate::ends;
 use crate::every_byte;
-use crate::group::{report, Group, Setup};
+use crate::group::{report, Group, Make, Setup};
 use crate::lookups::{self, POINTS};
 use crate::products;
 use crate::relations;
@@ -31,7 +32,7 @@ impl Sizes {
 
     /// The number of builds and lookups that the relations between calls are tested on.
     fn related(&self) -> u64 {
-        self.builds / 5
+        self.builds / 4
     }
 
     /// The number of sheets that demand 3 is tested on.
@@ -45,43 +46,20 @@ impl Sizes {
     }
 }
 
-fn groups(sizes: &Sizes) -> [Group; 7] {
+fn groups(sizes: &Sizes) -> [Group; 8] {
+    let group = |name, make: Make, cases| Group { name, make, cases };
+    let lookup_cases = sizes.lookups.div_ceil(POINTS as u64);
+    let sheet_cases = every_byte::sheet_cases() + sizes.damaged();
+    let map_cases = every_byte::map_cases() + sizes.damaged();
     [
-        Group {
-            name: "checks",
-            make: alone::check,
-            cases: sizes.checks,
-        },
-        Group {
-            name: "builds",
-            make: builds::any,
-            cases: sizes.builds,
-        },
-        Group {
-            name: "opens",
-            make: alone::open,
-            cases: sizes.opens,
-        },
-        Group {
-            name: "lookups",
-            make: lookups::any,
-            cases: sizes.lookups.div_ceil(POINTS as u64),
-        },
-        Group {
-            name: "damaged sheets",
-            make: every_byte::sheets,
-            cases: every_byte::sheet_cases() + sizes.damaged(),
-        },
-        Group {
-            name: "damaged maps",
-            make: every_byte::maps,
-            cases: every_byte::map_cases() + sizes.damaged(),
-        },
-        Group {
-            name: "products",
-            make: products::any,
-            cases: products::cases(),
-        },
+        group("checks", alone::check, sizes.checks),
+        group("builds", builds::any, sizes.builds),
+        group("opens", alone::open, sizes.opens),
+        group("lookups", lookups::any, lookup_cases),
+        group("damaged sheets", every_byte::sheets, sheet_cases),
+        group("damaged maps", every_byte::maps, map_cases),
+        group("products", products::any, products::cases()),
+        group("ends", ends::any, ends::cases()),
     ]
 }
 
@@ -180,7 +158,8 @@ fn comparison(run: &mut Run) -> Result<(), String> {
     Ok(())
 }
 
-/// Each call gives all codes that it can and no other, and reply 9 occurs with every sort of offset.
+/// Each call gives all codes that it can and no other; reply 9 occurs with every sort of offset, and reply 7 for every
+/// way to pass the limit.
 fn codes_reached(run: &mut Run) -> Result<(), String> {
     let covered = &run.covered;
     let codes = CALLS.map(|call| covered.reached(call));
@@ -191,8 +170,9 @@ fn codes_reached(run: &mut Run) -> Result<(), String> {
         &[0, 1, 2, 3, 4, 5, 7, 9, 10],
     ];
     let offsets = [Call::Open, Call::Lookup].map(|call| covered.reached_all_offsets(call));
-    let what = "codes reached: every one of 0 to 10, no other, and 9 for each sort of offset";
-    run.count(what, codes == all && offsets == [true; 2]);
+    let ways = [Call::Build, Call::Lookup].map(|call| covered.reached_all_ways(call));
+    let what = "codes reached: every one of 0 to 10, no other, 9 for each sort of offset, and 7 for each way to pass 2^60";
+    run.count(what, codes == all && [offsets, ways] == [[true; 2]; 2]);
     Ok(())
 }
 
@@ -227,10 +207,15 @@ fn relations(run: &mut Run) -> Result<(), String> {
     if let Some(told) = &held.broken {
         println!("BROKEN: {told}");
     }
-    let counts = [held.sheets_refused, held.maps_refused, held.maps_built];
-    let [sheets, maps, built] = counts;
+    let counts = [
+        held.sheets_refused,
+        held.maps_refused,
+        held.bounds_refused,
+        held.maps_built,
+    ];
+    let [sheets, maps, bounds, built] = counts;
     let what = format!(
-        "relations: {sheets} refused sheets, {maps} refused maps and {built} built maps, given to all calls"
+        "relations: {sheets} refused sheets, {maps} refused maps, {bounds} refused bounds and {built} built maps, given to all calls"
     );
     run.count(&what, held.broken.is_none() && !counts.contains(&0));
     Ok(())

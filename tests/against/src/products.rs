@@ -1,15 +1,13 @@
 //! Products of two intervals of every sign, with ends at and next to 0, 2^30 and 2^60.
 //!
 //! A product's bounds cannot be read off a map, so numbers are added to it until an end of the sum is 2^60 or -2^60,
-//! which is accepted, or one further, which is refused by 7 with the record of that sum.
+//! which is accepted, or one further, which is refused by 7 with the record of that sum and its end.
 
 use crate::builds::Made;
-use crate::case::{Build, Case, PLACINGS};
 use crate::maker::Maker;
 use crate::random::Random;
-use paper::bounds::{interval, Interval, FURTHEST};
-use paper::map::{HEADER, LEAF};
-use paper::root::Root;
+use crate::spans::{built, exact, number, operand, Span};
+use paper::bounds::{Interval, FURTHEST};
 use paper::sheet::{self, Record::*};
 use std::sync::OnceLock;
 
@@ -34,7 +32,7 @@ const ENDS: [i64; 13] = [
 /// Both ends accepted at the limit, the high end refused past it, and the low end.
 const PROBES: u64 = 3;
 
-/// The sign cases of two operands: above zero, below zero, or across it.
+/// The sign cases of two operands.
 const SIGNS: [[&str; 3]; 3] = [
     [
         "product: above by above",
@@ -54,7 +52,7 @@ const SIGNS: [[&str; 3]; 3] = [
 ];
 
 /// Every interval between two ends, from each end to itself too.
-fn operands() -> Vec<[i64; 2]> {
+pub fn operands() -> Vec<Span> {
     let mut ends = ENDS;
     ends.sort();
     let from = |i: usize| ends[i..].iter().map(move |&b| [ends[i], b]);
@@ -62,7 +60,7 @@ fn operands() -> Vec<[i64; 2]> {
 }
 
 /// A pair of operands, and which ends of their product are probed.
-type Pair = ([i64; 2], [i64; 2], u64);
+type Pair = (Span, Span, u64);
 
 /// Each pair of operands: with every probe if the product is within the limit, and otherwise once, since it is refused
 /// whatever is added to it.
@@ -83,8 +81,7 @@ pub fn cases() -> u64 {
     pairs().len() as u64
 }
 
-/// The build with a given case number. The root is a cube of side 1 at the origin, so each coordinate has the bounds
-/// [0, 1].
+/// The build with a given case number.
 pub fn any(number: u64, random: &mut Random) -> Made {
     let (first, second, probe) = pairs()[number as usize % pairs().len()];
     let mut maker = Maker::default();
@@ -95,65 +92,20 @@ pub fn any(number: u64, random: &mut Random) -> Made {
         probed(&mut maker, product, bounds, probe);
     }
     let solid = maker.add(Face(product));
-    let build = Build {
-        placing: random.below(PLACINGS) as u8,
-        sheet: sheet::write(&maker.with_solid(solid)),
-        root: Root {
-            low: [0; 3],
-            k: 0,
-            d: 0,
-        },
-        out_len: HEADER + LEAF,
-        out_seed: random.word() | 1,
-    };
+    let sheet = sheet::write(&maker.with_solid(solid));
     Made {
         labels: vec![SIGNS[sign(first)][sign(second)]],
-        case: Case::Build(build),
+        case: built(sheet, random),
     }
 }
 
-fn exact([low, high]: [i64; 2]) -> Interval {
-    interval(low, high)
-}
-
-fn sign([low, high]: [i64; 2]) -> usize {
+/// Above zero, below zero, or across it.
+pub fn sign([low, high]: Span) -> usize {
     match () {
         _ if low >= 0 => 0,
         _ if high <= 0 => 1,
         _ => 2,
     }
-}
-
-/// A record with these bounds.
-fn operand(maker: &mut Maker, [low, high]: [i64; 2]) -> usize {
-    if low == high {
-        return number(maker, low);
-    }
-    if low <= 0 && 0 <= high {
-        let (below, above) = (scaled(maker, 0, low), scaled(maker, 1, high));
-        return maker.add(Sum(below, above));
-    }
-    let (start, length) = (number(maker, low), scaled(maker, 2, high - low));
-    maker.add(Sum(start, length))
-}
-
-/// A number of up to 2^60 either way, from constants.
-fn number(maker: &mut Maker, value: i64) -> usize {
-    if i32::try_from(value).is_ok() {
-        return maker.constant(value);
-    }
-    let (high, unit) = (maker.constant(value >> 30), maker.constant(1 << 30));
-    let (high, low) = (
-        maker.add(Product(high, unit)),
-        maker.constant(value & ((1 << 30) - 1)),
-    );
-    maker.add(Sum(high, low))
-}
-
-/// A coordinate times a number.
-fn scaled(maker: &mut Maker, axis: usize, by: i64) -> usize {
-    let (along, factor) = (maker.axis(axis), number(maker, by));
-    maker.add(Product(along, factor))
 }
 
 /// Adds what brings an end of the product to the limit, or one past it.

@@ -1,13 +1,14 @@
 //! Relations that must hold between the library's own answers, whatever the paper says of each.
 
 use crate::builds::Made;
-use crate::case::{hex, Case, Lent, Outcome};
+use crate::case::{hex, Build, Case, Lent, Outcome};
 use crate::group::{on_two_servers, Setup};
 use crate::random::Random;
 use crate::server::Server;
-use crate::{builds, every_byte, lookups};
+use crate::{builds, ends, every_byte, lookups};
 use paper::colour::{TERMINAL, TERMINAL_COMPLEMENT};
 use paper::map::{HEADER, LEAF};
+use paper::root::Root;
 use paper::Reply;
 
 /// How often each relation was tested, and what broke one.
@@ -15,6 +16,7 @@ use paper::Reply;
 pub struct Held {
     pub sheets_refused: u64,
     pub maps_refused: u64,
+    pub bounds_refused: u64,
     pub maps_built: u64,
     pub broken: Option<String>,
 }
@@ -35,19 +37,40 @@ pub fn run(setup: &Setup, cases: u64) -> Result<Held, String> {
     let [mut all, other] = on_two_servers(setup, cases, hold)?;
     all.sheets_refused += other.sheets_refused;
     all.maps_refused += other.maps_refused;
+    all.bounds_refused += other.bounds_refused;
     all.maps_built += other.maps_built;
     all.broken = all.broken.or(other.broken);
     Ok(all)
 }
 
-/// A build or a lookup, with good and damaged sheets and maps in turn.
+/// A build or a lookup, with good and damaged sheets and maps in turn, and with bounds about the limit, each once.
 fn any(number: u64, random: &mut Random) -> Made {
-    match number % 4 {
+    let turn = number / 5;
+    match number % 5 {
         0 => builds::any(number + 1, random),
-        1 => lookups::any(number, random),
-        2 => every_byte::damaged_sheet(number / 4 % 2, random),
-        _ => every_byte::damaged_map(0, random),
+        1 => every_byte::damaged_sheet(turn % 2, random),
+        2 => every_byte::damaged_map(0, random),
+        3 if turn < ends::sheet_cases() => ends::lookup(turn, random),
+        _ => lookups::any(number, random),
     }
+}
+
+/// The build of a lookup's sheet over the root of its map, at depth 0, if the lookup did not refuse the map.
+fn over_its_root(case: &Case, given: &Outcome) -> Option<Case> {
+    let is_opened = given.replies.iter().all(|reply| reply.code != 9);
+    let (Case::Lookup(lookup), true) = (case, is_opened) else {
+        return None;
+    };
+    Some(Case::Build(Build {
+        placing: lookup.placing,
+        sheet: lookup.sheet.clone(),
+        root: Root {
+            d: 0,
+            ..case.root()?
+        },
+        out_len: 0,
+        out_seed: 1,
+    }))
 }
 
 impl Held {
@@ -68,6 +91,10 @@ impl Held {
         if let Some(map) = case.map() {
             let opened = ask(&Case::Open(lent(map)))?.replies[0];
             self.map(case, &given, opened, map);
+        }
+        if let Some(built) = over_its_root(case, &given) {
+            let built = ask(&built)?.replies[0];
+            self.bounds(case, &given, built);
         }
         if let (Case::Build(_), Reply { code: 0, number }) = (case, given.replies[0]) {
             let map = given.out.get(..number as usize).unwrap_or_default();
@@ -113,6 +140,16 @@ impl Held {
         self.expect(case, holds, "zone_open disagrees about the map");
     }
 
+    /// A lookup is refused by 7 if a build over the map's root is, with the same number, and not otherwise.
+    fn bounds(&mut self, case: &Case, given: &Outcome, built: Reply) {
+        self.bounds_refused += u64::from(built.code == 7);
+        let holds = given.replies.iter().all(|reply| match built.code {
+            7 => *reply == built,
+            _ => reply.code != 7,
+        });
+        self.expect(case, holds, "zone_build disagrees about the bounds");
+    }
+
     /// A map that was built opens with as many leaves as it has.
     fn built(&mut self, case: &Case, length: u64, opened: Reply) {
         self.maps_built += 1;
@@ -149,7 +186,8 @@ mod tests {
     fn the_paper_keeps_the_relations() {
         let held = held(Call::Check, |_| ());
         assert_eq!(held.broken, None);
-        assert!(held.sheets_refused > 0 && held.maps_refused > 0 && held.maps_built > 0);
+        assert!(held.sheets_refused > 0 && held.maps_refused > 0);
+        assert!(held.bounds_refused > 0 && held.maps_built > 0);
     }
 
     #[test]
@@ -170,6 +208,9 @@ mod tests {
         let other_record = |reply: &mut Reply| reply.number += u64::from(reply.code == 4);
         assert!(held(Call::Build, other_record).broken.is_some());
         assert!(held(Call::Lookup, other_record).broken.is_some());
+        let other_end = |reply: &mut Reply| reply.number ^= u64::from(reply.code == 7);
+        assert!(held(Call::Build, other_end).broken.is_some());
+        assert!(held(Call::Lookup, other_end).broken.is_some());
         let later = |reply: &mut Reply| reply.number += 3 * u64::from(reply.code == 9);
         assert!(held(Call::Lookup, later).broken.is_some());
     }

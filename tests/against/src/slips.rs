@@ -4,13 +4,14 @@
 use crate::case::{Case, Outcome};
 use crate::group::{Group, Make};
 use crate::wrong_builds::*;
+use crate::wrong_ends::*;
 use crate::wrong_lookups::*;
 use crate::wrong_reads::*;
-use crate::{alone, builds, every_byte, lookups, products};
+use crate::{alone, builds, ends, every_byte, lookups, products};
 
 /// A wrong rule: its description, the cases that show it, and the oracle that follows it.
 pub struct Slip {
-    pub name: &'static str,
+    pub name: String,
     pub group: Group,
     pub oracle: Wrong,
 }
@@ -117,10 +118,32 @@ const OF_LOOKING: [(&str, Make, Wrong); 8] = [
     ),
 ];
 
+/// Each is tried on builds and on lookups.
+const OF_ENDS: [(&str, Wrong); 7] = [
+    ("the high end first", high_end_first),
+    ("a low end above 2^60 is the high end's", low_end_only_below),
+    ("a record's number not doubled", not_doubled),
+    ("a record's number without its end", without_end),
+    ("a low end before any high end", low_end_of_any),
+    ("the first operand's end", end_of_first_operand),
+    ("the last operand's end", end_of_last_operand),
+];
+
+const GIVING_7: [(&str, Make); 2] = [("building", ends::build), ("looking up", ends::lookup)];
+
+fn of_ends() -> impl Iterator<Item = (String, Make, Wrong)> {
+    let each = |(call, make): (&'static str, Make)| {
+        let named = move |(rule, oracle)| (format!("{call}, 7: {rule}"), make, oracle);
+        OF_ENDS.into_iter().map(named)
+    };
+    GIVING_7.into_iter().flat_map(each)
+}
+
 pub fn slips() -> impl Iterator<Item = Slip> {
     let of_reading = OF_SHEETS.into_iter().chain(OF_OPENING);
     let all = OF_BUILDING.into_iter().chain(of_reading).chain(OF_LOOKING);
-    all.map(|(name, make, oracle)| Slip {
+    let all = all.map(|(name, make, oracle)| (name.to_string(), make, oracle));
+    all.chain(of_ends()).map(|(name, make, oracle)| Slip {
         name,
         group: Group {
             name: "wrong rules",

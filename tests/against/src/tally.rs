@@ -2,6 +2,7 @@
 
 use crate::builds::Made;
 use crate::case::{Build, Call, Case, Lookup, Outcome, CALLS, PLACINGS};
+use crate::fault::{Fault, WAYS};
 use crate::features;
 use paper::Reply;
 use std::collections::BTreeMap;
@@ -20,6 +21,8 @@ pub struct Tally {
     codes: [Counted<u32>; CALLS.len()],
     /// By call, and then by the sort of offset in reply 9.
     offsets: [[u64; OFFSETS]; CALLS.len()],
+    /// By call, and then by the way to pass the limit in reply 7.
+    ways: [[u64; WAYS.len()]; CALLS.len()],
     /// Of lookups that were answered: outside, inside, undecided.
     answers: [u64; 3],
     /// Of builds that gave code 0.
@@ -64,6 +67,10 @@ impl Tally {
             };
             self.offsets[call][sort] += 1;
         }
+        let fault = (reply.code == 7).then(|| Fault::of(case));
+        if let Some(fault) = fault.flatten() {
+            self.ways[call][fault.way()] += 1;
+        }
     }
 
     fn count_build(&mut self, build: &Build, reply: Reply) {
@@ -96,6 +103,7 @@ impl Tally {
             let call = call as usize;
             add_counted(&mut self.codes[call], &other.codes[call]);
             add_each(&mut self.offsets[call], &other.offsets[call]);
+            add_each(&mut self.ways[call], &other.ways[call]);
         }
         add_each(&mut self.answers, &other.answers);
         add_each(&mut self.sides, &other.sides);
@@ -112,6 +120,11 @@ impl Tally {
     /// Whether a call gave reply 9 with every sort of offset.
     pub fn reached_all_offsets(&self, call: Call) -> bool {
         self.offsets[call as usize].iter().all(|&count| count > 0)
+    }
+
+    /// Whether a call gave reply 7 for every way to pass the limit.
+    pub fn reached_all_ways(&self, call: Call) -> bool {
+        self.ways[call as usize].iter().all(|&count| count > 0)
     }
 
     /// The number of calls, as in '20 builds, 3 lookups'.
@@ -145,6 +158,10 @@ impl Tally {
         for call in [Call::Open, Call::Lookup] {
             let (name, offsets) = (call.name(), list(&self.offsets[call as usize]));
             println!("    {name} refused by 9 for length, version, root or depth, a leaf, leaves that stop short: {offsets}");
+        }
+        for call in [Call::Build, Call::Lookup] {
+            let (name, ways) = (call.name(), list(&self.ways[call as usize]));
+            println!("    {name} refused by 7 for {}: {ways}", WAYS.join(", "));
         }
         println!("    outside, inside, undecided: {}", list(&self.answers));
         println!("    calls by placing of slices: {}", list(&self.placings));

@@ -58,7 +58,7 @@ pub fn limit_refused(case: &Case) -> Outcome {
     built(case, |sheet, root| {
         let reached = || bounds::first_past(FURTHEST - 1, sheet, &root.cube());
         match root.in_limits().then(reached).flatten() {
-            Some(record) => Err(reply(7, record)),
+            Some(past) => Err(reply(7, past.number())),
             None => map_by(&colour::colour, sheet, root),
         }
     })
@@ -91,11 +91,10 @@ pub fn kinds_exchanged(case: &Case) -> Outcome {
 /// The paper's map of a root that is not split, by another rule of products.
 fn by_products(case: &Case, product: bounds::Rule) -> Outcome {
     built(case, |sheet, root| {
-        let bounds = bounds::over_by(product, sheet, &root.cube());
-        let past = |of: &Option<Interval>| of.is_some_and(|of| of.passes(FURTHEST));
-        if let Some(record) = bounds.iter().position(past) {
-            return Err(reply(7, record));
+        if let Some(past) = bounds::first_past_by(product, FURTHEST, sheet, &root.cube()) {
+            return Err(reply(7, past.number()));
         }
+        let bounds = bounds::over_by(product, sheet, &root.cube());
         let colour = colour::class(colour::solid(&RULES, sheet, &bounds));
         Ok(map::write(root, &[Leaf { level: 0, colour }]))
     })

@@ -9,7 +9,7 @@ use paper::sheet::{self, Record, Sheet, Sort};
 use paper::{reply, Reply};
 
 /// The paper's replies, changed.
-fn changed_replies(case: &Case, change: impl Fn(&mut Reply)) -> Outcome {
+pub fn changed_replies(case: &Case, change: impl Fn(&mut Reply)) -> Outcome {
     let mut outcome = by_paper(case);
     outcome.replies.iter_mut().for_each(change);
     outcome

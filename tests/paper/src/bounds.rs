@@ -11,6 +11,20 @@ pub struct Interval {
     pub high: i128,
 }
 
+/// An end of an interval.
+#[derive(Clone, Copy, Debug, PartialEq, Eq)]
+pub enum End {
+    Low,
+    High,
+}
+
+/// A record whose bounds pass a limit, and the end that lies outside it.
+#[derive(Clone, Copy, Debug, PartialEq, Eq)]
+pub struct Past {
+    pub record: usize,
+    pub end: End,
+}
+
 /// Bounds lie in -2^60 to 2^60.
 pub const FURTHEST: i128 = 1 << 60;
 
@@ -54,9 +68,31 @@ impl Interval {
         }
     }
 
-    /// Whether an end lies further from 0 than this.
+    /// Which end lies outside -furthest to furthest: the low end if it does, otherwise the high end (request 2026-04).
+    pub fn end_outside(self, furthest: i128) -> Option<End> {
+        let is_outside = |end: i128| end < -furthest || end > furthest;
+        if is_outside(self.low) {
+            Some(End::Low)
+        } else if is_outside(self.high) {
+            Some(End::High)
+        } else {
+            None
+        }
+    }
+
+    /// Whether an end does.
     pub fn passes(self, furthest: i128) -> bool {
-        self.low < -furthest || self.high > furthest
+        self.end_outside(furthest).is_some()
+    }
+}
+
+impl Past {
+    /// In replies 7 and 11: twice the record number, plus 1 for the high end.
+    pub fn number(self) -> usize {
+        match self.end {
+            End::Low => 2 * self.record,
+            End::High => 2 * self.record + 1,
+        }
     }
 }
 
@@ -64,7 +100,7 @@ impl Interval {
 pub type Rule = fn(Interval, Interval) -> Interval;
 
 /// The bounds of a record over a closed cube, from those of the records before it; None for a logical one.
-fn of_record(
+pub fn of_record(
     record: &Record,
     earlier: &[Option<Interval>],
     cube: &Cube,
@@ -99,22 +135,32 @@ pub fn over_by(product: Rule, sheet: &Sheet, cube: &Cube) -> Vec<Option<Interval
     all
 }
 
-/// The first record with an end of its bounds over a closed cube further from 0 than this. Its bounds are exact,
-/// since those of its operands lie nearer.
-pub fn first_past(furthest: i128, sheet: &Sheet, cube: &Cube) -> Option<usize> {
+/// The first record with an end of its bounds over a closed cube outside -furthest to furthest. Its bounds are exact,
+/// since those of its operands lie inside.
+pub fn first_past(furthest: i128, sheet: &Sheet, cube: &Cube) -> Option<Past> {
+    first_past_by(Interval::product, furthest, sheet, cube)
+}
+
+pub fn first_past_by(product: Rule, furthest: i128, sheet: &Sheet, cube: &Cube) -> Option<Past> {
     let mut all = Vec::with_capacity(sheet.records.len());
-    sheet.records.iter().position(|record| {
-        let bounds = of_record(record, &all, cube, Interval::product);
+    for (number, record) in sheet.records.iter().enumerate() {
+        let bounds = of_record(record, &all, cube, product);
+        if let Some(end) = bounds.and_then(|of| of.end_outside(furthest)) {
+            return Some(Past {
+                record: number,
+                end,
+            });
+        }
         all.push(bounds);
-        bounds.is_some_and(|of| of.passes(furthest))
-    })
+    }
+    None
 }
 
 /// Every arithmetic record's bounds over the root must lie in -2^60 to 2^60, used by the solid or not. Otherwise
-/// reply 7, with the first record whose bounds do not.
+/// reply 7, by the first record whose bounds do not.
 pub fn within_limit(sheet: &Sheet, root: &Root) -> Result<(), Refusal> {
     match first_past(FURTHEST, sheet, &root.cube()) {
-        Some(record) => Err(reply(7, record)),
+        Some(past) => Err(reply(7, past.number())),
         None => Ok(()),
     }
 }

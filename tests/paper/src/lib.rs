@@ -1,4 +1,5 @@
-//! Document 01 in plain Rust, written from the document alone. The proved library is compared with it.
+//! Document 01 in plain Rust, with the requests of document 02 that have landed, written from the documents alone.
+//! The proved library is compared with it.
 //!
 //! There is a module for each section of the document, in its words and order, and each rule is in one
 //! place. Clarity comes first. Whole numbers are exact: 128 bits where the paper's limits keep them

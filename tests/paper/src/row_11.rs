@@ -1,9 +1,9 @@
 //! Row 11 of document 01's table, which request 2026-11 drops: "build: a record's bounds over a smaller cube pass
-//! 2^60", with "the first such record of the first such cube, a cube before its children". It comes after 7 and
-//! before 8. No input reaches it, since a smaller cube's bounds lie inside the root's; so building by the table with
-//! the row must give the same replies.
+//! 2^60", with "the first such record of the first such cube, a cube before its children", whose number also says
+//! which end, as in reply 7. It comes after 7 and before 8. No input reaches it, since a smaller cube's bounds lie
+//! inside the root's; so building by the table with the row must give the same replies.
 
-use crate::bounds;
+use crate::bounds::{self, Past};
 use crate::build::map_by;
 use crate::colour::{self, GRAY};
 use crate::root::{Cube, Root};
@@ -33,7 +33,7 @@ pub fn map_of(limit: i128, sheet: &[u8], root: &Root) -> (Result<Vec<u8>, Refusa
             tested: &mut tested,
         };
         match row.below(&root.cube()) {
-            Some(record) => Err(reply(CODE, record)),
+            Some(past) => Err(reply(CODE, past.number())),
             None => Ok(map),
         }
     });
@@ -49,7 +49,7 @@ struct Row<'a> {
 
 impl Row<'_> {
     /// The first such record of the first such cube below this one, a cube before its children.
-    fn below(&mut self, cube: &Cube) -> Option<usize> {
+    fn below(&mut self, cube: &Cube) -> Option<Past> {
         let is_split = cube.level < self.d && colour::colour(self.sheet, cube).class == GRAY;
         if !is_split {
             return None;
@@ -59,7 +59,7 @@ impl Row<'_> {
     }
 
     /// The first such record of a cube.
-    fn over(&mut self, cube: &Cube) -> Option<usize> {
+    fn over(&mut self, cube: &Cube) -> Option<Past> {
         let past = |limit| bounds::first_past(limit, self.sheet, cube);
         self.tested.cubes += 1;
         self.tested.at_limit += u64::from(past(self.limit - 1).is_some());
@@ -84,10 +84,10 @@ mod tests {
         Tested { cubes, at_limit }
     }
 
-    /// The row refuses with this record.
-    fn refused(limit: i128, records: &[Record], record: usize) {
+    /// The row refuses with this number.
+    fn refused(limit: i128, records: &[Record], number: usize) {
         let map = map_of(limit, &sheet::write(records), &ROOT).0;
-        assert_eq!(map, Err(reply(CODE, record)));
+        assert_eq!(map, Err(reply(CODE, number)));
     }
 
     /// x at most 2 and y at most 2, with y first.
@@ -111,8 +111,8 @@ mod tests {
 
     #[test]
     fn the_first_cube_decides() {
-        // x reaches 4 in child 1, y in child 2.
-        refused(3, &STEP, 1);
+        // x reaches 4 in child 1, y in child 2. It is the high end of record 1.
+        refused(3, &STEP, 3);
     }
 
     #[test]
@@ -120,7 +120,10 @@ mod tests {
         // Over child 0 the square reaches 4. Over the first child of child 0 it does not, and only the 9 is past 3.
         let records = [X, Square(0), Constant(9), Constant(1), Y];
         let faces = [Difference(0, 3), Difference(4, 3), Face(5), Face(6)];
-        refused(3, &[&records[..], &faces, &[Both(7, 8)]].concat(), 1);
+        refused(3, &[&records[..], &faces, &[Both(7, 8)]].concat(), 3);
+        // With a constant in place of the square, the 9 is the first: it is past 3 at its low end too.
+        let records = [X, Constant(0), Constant(9), Constant(1), Y];
+        refused(3, &[&records[..], &faces, &[Both(7, 8)]].concat(), 4);
     }
 
     /// The cube of x, and a solid that splits the root; x reaches 2^20 in four of its children.
@@ -137,13 +140,13 @@ mod tests {
         let map = build::map_of(&sheet, &root);
         assert_eq!(map_of(FURTHEST, &sheet, &root), (map, tested(8, 4)));
         let lower = map_of(FURTHEST - 1, &sheet, &root);
-        assert_eq!(lower, (Err(reply(CODE, 2)), tested(2, 1)));
+        assert_eq!(lower, (Err(reply(CODE, 5)), tested(2, 1)));
     }
 
     #[test]
     fn the_root_comes_first() {
         let sheet = sheet::write(&[Constant(i32::MIN), Square(0), Face(1)]);
-        let refused = (Err(reply(7, 1)), tested(0, 0));
+        let refused = (Err(reply(7, 2)), tested(0, 0));
         assert_eq!(map_of(0, &sheet, &ROOT), refused);
     }
 }

@@ -1,12 +1,13 @@
-//! The rows of "Both sides of each line", the step room, and the examples of how sentences are read.
+//! The rows of "Both sides of each line", with those that requests change, the step room, and the examples of how
+//! sentences are read.
 
-use crate::bounds::{interval, over};
+use crate::bounds::{interval, over, FURTHEST};
 use crate::build::{build, map_of};
 use crate::colour::{self, State};
 use crate::lookup::{lookup, INSIDE, OUTSIDE, UNDECIDED};
 use crate::map::open;
 use crate::root::{Cube, Root};
-use crate::sheet::{self, check, Record::*, Sheet};
+use crate::sheet::{self, check, Record, Record::*, Sheet};
 use crate::{reply, Reply};
 
 /// The bytes of a hex string.
@@ -124,9 +125,73 @@ fn the_limit_is_reached_and_passed() {
     is(
         build(&sheet::write(&passed), &root(1048575, 0, 0), &mut out),
         7,
-        3,
+        7,
     );
     assert_eq!(out, [7; 22]);
+}
+
+/// Over x and y from 0 to 1: 2^60 is record 3, -2^60 record 5, and record 8 has the bounds [-2^60, 2^60].
+const AT_THE_LIMIT: [Record; 9] = [
+    X,
+    Y,
+    Constant(1 << 30),
+    Square(2),
+    Constant(0),
+    Difference(4, 3),
+    Product(0, 3),
+    Product(1, 5),
+    Sum(6, 7),
+];
+
+/// What a build and a lookup return for these records and some more, from record 9 on. The map of the lookup is one of
+/// the step room.
+fn with_more(more: &[Record]) -> [Reply; 2] {
+    let records = [&AT_THE_LIMIT[..], more, &[Face(0)]].concat();
+    let (sheet, root) = (sheet::write(&records), root(0, 0, 0));
+    let map = map_of(&s(), &root).unwrap();
+    [
+        build(&sheet, &root, &mut [0; 22]),
+        lookup(&sheet, &map, [0, 0, 0]),
+    ]
+}
+
+fn refused_by_7(more: &[Record], number: usize) {
+    assert_eq!(with_more(more), [reply(7, number); 2]);
+}
+
+#[test]
+fn the_limit_itself_is_accepted_at_both_ends() {
+    let records = AT_THE_LIMIT.to_vec();
+    let bounds = over(&Sheet { records }, &root(0, 0, 0).cube());
+    assert_eq!(bounds[8], Some(interval(-FURTHEST, FURTHEST)));
+    assert_eq!(with_more(&[]), [reply(0, 22), reply(0, INSIDE)]);
+}
+
+#[test]
+fn reply_7_says_which_end() {
+    // The high end alone: [2^60, 2^60 + 1]. The low end alone: [-2^60 - 1, -2^60].
+    refused_by_7(&[Sum(3, 0)], 19);
+    refused_by_7(&[Difference(5, 0)], 18);
+    // Both ends, on either side: the low end.
+    refused_by_7(&[Sum(8, 8)], 18);
+    // A low end above 2^60, and two ends below -2^60.
+    refused_by_7(&[Sum(3, 2)], 18);
+    refused_by_7(&[Square(3)], 18);
+    refused_by_7(&[Difference(5, 2)], 18);
+    // A negative factor and a difference change the ends over, and no square is below 0.
+    refused_by_7(&[Product(6, 5)], 18);
+    refused_by_7(&[Product(7, 5)], 19);
+    refused_by_7(&[Difference(5, 6)], 18);
+    refused_by_7(&[Difference(3, 7)], 19);
+    refused_by_7(&[Square(8)], 19);
+}
+
+#[test]
+fn the_first_record_decides_and_then_its_end() {
+    let (low, high) = (Difference(5, 0), Sum(3, 0));
+    refused_by_7(&[high.clone(), low.clone()], 19);
+    refused_by_7(&[low, high.clone()], 18);
+    refused_by_7(&[Constant(1), high], 21);
 }
 
 #[test]
@@ -247,6 +312,6 @@ fn lookup_refuses_by_9_before_7_before_10() {
     let far = [i32::MAX; 3];
     let good = map_of(&s(), &root(0, 2, 0)).unwrap();
     is(lookup(&sheet, &good[..21], far), 9, 0);
-    is(lookup(&sheet, &good, far), 7, 1);
+    is(lookup(&sheet, &good, far), 7, 2);
     is(lookup(&s(), &good, far), 10, 0);
 }

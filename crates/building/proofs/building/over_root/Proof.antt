@@ -45,8 +45,8 @@ same-length c = search needs
 returns-2 : tie.Need-returns-2
 returns-2 c = search (needs, within, under-limit)
 
-enum-known-n : tie.Need-enum-known-n
-enum-known-n c = search needs
+enum-known-over : tie.Need-enum-known-over
+enum-known-over c = search needs
 
 returns-3 : tie.Need-returns-3
 returns-3 c = search (needs, within, over-root)
@@ -68,5 +68,5 @@ over-root-spec =
     stored-requires
     same-length
     returns-2
-    enum-known-n
+    enum-known-over
     returns-3)

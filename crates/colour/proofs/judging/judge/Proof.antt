@@ -33,12 +33,15 @@ bounds-requires c κs = search (needs, held)
 enum-known-v : tie.Need-enum-known-v Inv-loop μ-loop
 enum-known-v c = search needs
 
-enum-told : tie.Need-enum-told Inv-loop μ-loop
-enum-told c = search needs
+enum-known-end : tie.Need-enum-known-end Inv-loop μ-loop
+enum-known-end c = search needs
+
+cast-t30 : tie.Need-cast-t30 Inv-loop μ-loop
+cast-t30 c = fits-under _ _ 256 (search (needs, number-few)) tt
 
 returns : tie.Need-returns Inv-loop μ-loop
 returns c =
-    search (needs, judged-past _ _ _ _ _ _ _ _ _ (c .before .before .before .before .before .before .before .before .before .before .before .loop .inv))
+    search (needs, judged-past _ _ _ _ _ _ _ _ _ (c .before .before .before .before .before .before .before .before .before .before .before .before .loop .inv))
 
 cast-state : tie.Need-cast-state Inv-loop μ-loop
 cast-state c = fits-under _ _ 256 (search (needs, number-few)) tt
@@ -111,7 +114,8 @@ judge-spec =
     record-at-requires
     bounds-requires
     enum-known-v
-    enum-told
+    enum-known-end
+    cast-t30
     returns
     cast-state
     slice-aggregate-state

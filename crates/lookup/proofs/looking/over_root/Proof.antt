@@ -33,8 +33,8 @@ at-point-requires c κs = (search needs, (search needs, (search needs, known-non
 returns : tie.Need-returns
 returns c = search (needs, at-limit)
 
-enum-known-n : tie.Need-enum-known-n
-enum-known-n c = search needs
+enum-known-over : tie.Need-enum-known-over
+enum-known-over c = search needs
 
 returns-2 : tie.Need-returns-2
 returns-2 c = search (needs, over-limit)
@@ -52,5 +52,5 @@ over-root-spec =
     slice-aggregate-at-point
     at-point-requires
     returns
-    enum-known-n
+    enum-known-over
     returns-2)

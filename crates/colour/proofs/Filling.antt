@@ -9,13 +9,13 @@ use mir.Val.{Fits, toZ, ofZ}
 use lib.ListN.{length, getD, take, set, replicate, length-set, length-take}
 use lib.Seq.{take-all, getD-take, getD-at}
 use Rattle.interval.specs.declared.Interval.{Interval}
-use Rattle.replies.specs.declared.End.{End}
 use Rattle.interval.specs.declared.Bounded.{Bounded}
 use Rattle.interval.specs.declared.Bounded.the-variants.{Within, Past as Beyond}
 use Rattle.interval.specs.Rules.{from}
 use Rattle.interval.specs.Limit.{SmallEnds, pastEnd, boundedOf}
 use Rattle.interval.proofs.Limit.{limit-back}
 use Rattle.interval.proofs.Facts.{past-is, within-is, within-small}
+use Rattle.replies.specs.declared.End.{End}
 use Rattle.replies.specs.Table.{over}
 use Rattle.sheet.specs.declared.Record.{Record}
 use Rattle.sheet.specs.declared.Record.the-variants.{X}

@@ -4,9 +4,9 @@ use mathlib.Core.List.{List, [], _∷_, _++_}
 use Prim.Native.Nat.{ℕ, zero, suc, _+_, _<_}
 use native.Mathlib.Omega.{arith}
 use lib.ListN.{getD}
-use Rattle.replies.specs.declared.End.{End}
 use Rattle.interval.specs.Limit.{SmallEnds, pastEnd}
 use Rattle.interval.proofs.Facts.{by-end, ends-within}
+use Rattle.replies.specs.declared.End.{End}
 use Rattle.replies.specs.declared.Over.{Over}
 use Rattle.replies.specs.Table.{over}
 use Rattle.sheet.specs.declared.Record.{Record}

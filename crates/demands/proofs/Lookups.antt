@@ -138,7 +138,7 @@ module _ (sheet map : List ℕ) (p : Point) where
   unfolding zoneLookupOf lookupOf pairRefusal pointReply
   lookup-rows good = record {
     row-9 = λ at fault. rw (good-check sheet good, fault);
-    row-7 = λ opens. row-7 rs (rootOf map) _ (λ o past. rw (good-check sheet good, opens-fault (hasFace rs) map opens, past));
+    row-7 = λ opens. row-7 rs (rootCube (rootOf map)) _ (λ o past. rw (good-check sheet good, opens-fault (hasFace rs) map opens, past));
     row-10 = λ opens bounded out. rw (good-check sheet good, opens-fault (hasFace rs) map opens, keep-none rs (rootCube (rootOf map)) bounded, out-of-root out);
   }
 

@@ -22,6 +22,7 @@ use Rattle.sheet.specs.declared.Record.{Record}
 use Rattle.sheet.specs.Records.{recordsOf}
 use Rattle.sheet.specs.Check.{checkOf}
 use Rattle.cube.specs.declared.Root.{Root}
+use Rattle.cube.specs.declared.Cube.{Cube}
 use Rattle.cube.specs.Limits.{inLimits}
 use Rattle.cube.specs.Cubes.{rootCube}
 use Rattle.cube.proofs.Numbers.{within-limits, limits-within, out-of-limits}
@@ -49,13 +50,11 @@ one-outcome told = record {
 }
 
 -- ---- row 7, of a reply that has the number of the first record past the limit over the root
-pub row-7 : (rs : List Record) (root : Root) (r : ZoneReply) → ((o : Over) → firstPast rs (rootCube root) ≡ o ∷ [] → r ≡ reply 7 (overNumber o)) → Row7 rs root r
-row-7 rs root r told =
-    let q = rootCube root in
-    record {
-      low = λ n keep past. told (over n Low) (past-at rs q n Low keep (low-past (boundsOver rs q n) (large-test _ past))) ∙ ap (reply 7) (omega arith);
-      high = λ n keep small past. told (over n High) (past-at rs q n High keep (high-past (boundsOver rs q n) (small-test _ small) (large-test _ past)));
-    }
+pub row-7 : (rs : List Record) (q : Cube) (r : ZoneReply) → ((o : Over) → firstPast rs q ≡ o ∷ [] → r ≡ reply 7 (overNumber o)) → Row7 rs q r
+row-7 rs q r told = record {
+  low = λ n keep past. told (over n Low) (past-at rs q n Low keep (low-past (boundsOver rs q n) (large-test _ past))) ∙ ap (reply 7) (omega arith);
+  high = λ n keep small past. told (over n High) (past-at rs q n High keep (high-past (boundsOver rs q n) (small-test _ small) (large-test _ past)));
+}
 
 -- ---- if the code is not 0, the buffer is unchanged
 module _ (before : List ℕ) where
@@ -124,6 +123,6 @@ module _ (sheet : List ℕ) (root : Root) (before : List ℕ) where
   unfolding zoneBuildOf buildOf overRootOf storedOf
   build-rows good = record {
     row-6 = λ out. rw (good-check sheet good, out-of-limits root out);
-    row-7 = λ within. row-7 rs root _ (λ o past. rw (good-check sheet good, limits-within root within, past));
+    row-7 = λ within. row-7 rs (rootCube root) _ (λ o past. rw (good-check sheet good, limits-within root within, past));
     row-8 = λ within bounded short. rw (good-check sheet good, limits-within root within, keep-none rs (rootCube root) bounded, lt-ltb _ _ short);
   }

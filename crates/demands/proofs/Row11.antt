@@ -1,6 +1,5 @@
 -- Request 2026-11: where row 7 does not refuse, row 11 would not either, so dropping it changed no outcome; and no call returns 11.
 use mathlib.Core.Path.{_≡_, refl}
-use mathlib.Core.Bool.{not}
 use mathlib.Core.List.{List, [], _∷_, _++_}
 use Prim.Native.Nat.{ℕ, zero, suc, _+_, _^_}
 use native.Mathlib.Omega.{arith}
@@ -37,7 +36,7 @@ use Rattle.tree.specs.Visit.{upto}
 use Rattle.tree.specs.Solid.{solidState, isGray}
 use Rattle.tree.proofs.Visits.{upto-nothing}
 use Rattle.tree.proofs.Cubes.{child-none}
-use Rattle.building.specs.Build.{outcome, overRootOf, buildOf}
+use Rattle.building.specs.Build.{overRootOf, buildOf}
 use Rattle.lookup.specs.Lookup.{lookupOf, numbered}
 use Rattle.zone.specs.Replies.{byNumber, zoneCheckOf, zoneBuildOf, zoneOpenOf, zoneLookupOf}
 use Rattle.zone.proofs.ByNumber.{done-code}

@@ -22,7 +22,7 @@ use Rattle.zonemap.specs.StepRoom.{stepRoot, stepMap}
 use Rattle.tree.specs.Solid.{solidState}
 use Rattle.lookup.specs.Lookup.{leafHolding}
 use Rattle.zone.specs.Replies.{reply, zoneOutcome, zoneBuildOf, zoneLookupOf}
-use Rattle.demands.specs.Terms.{GoodSheet, boundsOver, KeepsLimit}
+use Rattle.demands.specs.Terms.{GoodSheet, boundsOver}
 
 -- one claim for a list of statements: all of them hold
 unfoldable pub AllHold : List (Type 0) → Type 0
@@ -85,18 +85,22 @@ elevenRows =
 abbrev pub unit : ℤ → Root
 unit low = record { x = low; y = pos 0; z = pos 0; k = 0; d = 0 }
 
--- zone_build over it, for any sheet with these records, returns 7 with this number and leaves the buffer as it was
+-- zone_build over it, for any sheet with these records: with room for the map's 22 bytes it returns code 0
+abbrev Accepts : ℤ → List Record → Type 0
+Accepts low rs = (sheet out : List ℕ) → GoodSheet sheet → recordsOf sheet ≡ rs → 22 ≤ length out → zoneBuildOf sheet (unit low) out .reply ≡ reply 0 22
+
+-- or it returns 7 with this number, and leaves the buffer as it was
 abbrev Refuses7 : ℤ → List Record → ℕ → Type 0
-Refuses7 low rs number = (sheet before : List ℕ) → GoodSheet sheet → recordsOf sheet ≡ rs → zoneBuildOf sheet (unit low) before ≡ zoneOutcome (reply 7 number) before
+Refuses7 low rs number = (sheet out : List ℕ) → GoodSheet sheet → recordsOf sheet ≡ rs → zoneBuildOf sheet (unit low) out ≡ zoneOutcome (reply 7 number) out
 
 -- x, its square, and the square times x
-abbrev pub cubed : List Record
+abbrev cubed : List Record
 cubed = X ∷ Square 0 ∷ Product 1 0 ∷ []
 
 abbrev pub limitRows : List (Type 0)
 limitRows =
     -- Low corner (1048575,0,0), k 0: records x, its square, square times x, then a face: 2^60 is reached and accepted.
-    ((boundsOver (cubed ++ Face 2 ∷ []) (rootCube (unit (pos 1048575))) 2 .high ≡ pos (2 ^ 60)) × KeepsLimit (cubed ++ Face 2 ∷ []) (rootCube (unit (pos 1048575))))
+    ((boundsOver (cubed ++ Face 2 ∷ []) (rootCube (unit (pos 1048575))) 2 .high ≡ pos (2 ^ 60)) × Accepts (pos 1048575) (cubed ++ Face 2 ∷ []))
     -- With x added to the third as record 3, and a face of record 3 after it: 7 with 7. (It was 7 with 3 before request 2026-04.)
     ∷ Refuses7 (pos 1048575) (cubed ++ Sum 2 0 ∷ Face 3 ∷ []) 7
     -- the same records at the low corner (-1048576,0,0): the low end of record 3 passes -2^60, its high end does not

@@ -13,6 +13,7 @@ use Rattle.sheet.specs.Operands.{firstUnmet, lastSort}
 use Rattle.sheet.specs.Check.{lengthFails}
 use Rattle.records.specs.Faces.{hasFace}
 use Rattle.cube.specs.declared.Root.{Root}
+use Rattle.cube.specs.declared.Cube.{Cube}
 use Rattle.cube.specs.declared.Point.{Point}
 use Rattle.cube.specs.Limits.{WithinLimits}
 use Rattle.cube.specs.Cubes.{rootCube}
@@ -22,7 +23,7 @@ use Rattle.zonemap.specs.Leaves.{nthPlace}
 use Rattle.building.specs.Build.{builtMap}
 use Rattle.zone.specs.declared.ZoneReply.{ZoneReply}
 use Rattle.zone.specs.Replies.{reply, zoneCheckOf, zoneBuildOf, zoneOpenOf, zoneLookupOf}
-use Rattle.demands.specs.Terms.{GoodSheet, GoodLeaf, Opens, boundsOver, KeepBefore, KeepsLimit}
+use Rattle.demands.specs.Terms.{GoodSheet, GoodLeaf, Opens, boundsOver, KeepsBefore, KeepsLimit}
 
 -- for any sheet
 pub record SheetRows (sheet : List ℕ) : Type 0 where
@@ -39,19 +40,18 @@ pub record SheetRows (sheet : List ℕ) : Type 0 where
   pub row-5 : lengthFails sheet ≡ false → getD sheet 2 0 ≡ 1 → length sheet ≤ stopOf sheet → firstUnmet [] (recordsOf sheet) ≡ length (recordsOf sheet)
       → (lastSort (recordsOf sheet) ≡ Logical → ⊥) → zoneCheckOf sheet ≡ reply 5 (length (recordsOf sheet))
 
--- row 7, by request 2026-04, of the reply r for a root: n is the first record whose bounds over the root pass 2^60. The number is twice n, plus 1 for the high
--- end: the low end counts if it lies outside -2^60 to 2^60, on either side, otherwise the high end.
-pub record Row7 (rs : List Record) (root : Root) (r : ZoneReply) : Type 0 where
-  pub low : (n : ℕ) → KeepBefore rs (rootCube root) n → 2 ^ 60 < natAbs (boundsOver rs (rootCube root) n .low) → r ≡ reply 7 (2 * n)
-  pub high : (n : ℕ) → KeepBefore rs (rootCube root) n → natAbs (boundsOver rs (rootCube root) n .low) ≤ 2 ^ 60 → 2 ^ 60 < natAbs (boundsOver rs (rootCube root) n .high)
-      → r ≡ reply 7 (2 * n + 1)
+-- row 7 of the reply r, by request 2026-04: n is the first record whose bounds over the root q pass 2^60. The number is twice n, plus 1 for the high end: "the
+-- low end if it does" lie outside -2^60 to 2^60, on either side, "otherwise the high end".
+pub record Row7 (rs : List Record) (q : Cube) (r : ZoneReply) : Type 0 where
+  pub low : (n : ℕ) → KeepsBefore rs q n → 2 ^ 60 < natAbs (boundsOver rs q n .low) → r ≡ reply 7 (2 * n)
+  pub high : (n : ℕ) → KeepsBefore rs q n → natAbs (boundsOver rs q n .low) ≤ 2 ^ 60 → 2 ^ 60 < natAbs (boundsOver rs q n .high) → r ≡ reply 7 (2 * n + 1)
 
 -- for a good sheet, zone_build
 pub record BuildRows (sheet : List ℕ) (good : GoodSheet sheet) (root : Root) (before : List ℕ) : Type 0 where
   -- root or depth out of limits
   pub row-6 : (WithinLimits root → ⊥) → zoneBuildOf sheet root before .reply ≡ reply 6 0
   -- a record's bounds over the root pass 2^60: the first such record, and its end
-  pub row-7 : WithinLimits root → Row7 (recordsOf sheet) root (zoneBuildOf sheet root before .reply)
+  pub row-7 : WithinLimits root → Row7 (recordsOf sheet) (rootCube root) (zoneBuildOf sheet root before .reply)
   -- lent buffer shorter than the map: bytes needed
   pub row-8 : WithinLimits root → KeepsLimit (recordsOf sheet) (rootCube root) → length before < length (builtMap (recordsOf sheet) root)
       → zoneBuildOf sheet root before .reply ≡ reply 8 (length (builtMap (recordsOf sheet) root))
@@ -61,7 +61,7 @@ pub record LookupRows (sheet : List ℕ) (good : GoodSheet sheet) (map : List �
   -- map doesn't open, or a terminal leaf names a record that isn't a face of the sheet: the offset of the first fault
   pub row-9 : (at : ℕ) → faultOf (hasFace (recordsOf sheet)) map ≡ at ∷ [] → zoneLookupOf sheet map p ≡ reply 9 at
   -- a record's bounds over the root pass 2^60: the first such record, and its end
-  pub row-7 : Opens (hasFace (recordsOf sheet)) map → Row7 (recordsOf sheet) (rootOf map) (zoneLookupOf sheet map p)
+  pub row-7 : Opens (hasFace (recordsOf sheet)) map → Row7 (recordsOf sheet) (rootCube (rootOf map)) (zoneLookupOf sheet map p)
   -- point not in the root, high planes left out
   pub row-10 : Opens (hasFace (recordsOf sheet)) map → KeepsLimit (recordsOf sheet) (rootCube (rootOf map)) → (InRoot (rootOf map) p → ⊥) → zoneLookupOf sheet map p ≡ reply 10 0
 

@@ -106,8 +106,8 @@ abbrev pub boundsOver : List Record → Cube → ℕ → Interval
 boundsOver rs q i = getD (entries q rs) i blank .bounds
 
 -- row 7: the bounds of each record before record n over a cube lie in -2^60 to 2^60
-abbrev pub KeepBefore : List Record → Cube → ℕ → Type 0
-KeepBefore rs q n = (i : ℕ) → i < n → SmallEnds (boundsOver rs q i)
+abbrev pub KeepsBefore : List Record → Cube → ℕ → Type 0
+KeepsBefore rs q n = (i : ℕ) → i < n → SmallEnds (boundsOver rs q i)
 
 -- and those of every record
 abbrev pub KeepsLimit : List Record → Cube → Type 0

@@ -5,10 +5,10 @@ use mathlib.Core.List.{[], _∷_}
 use Prim.Native.Nat.{ℕ}
 use native.Mathlib.Omega.{arith}
 use Rattle.integers.proofs.Order.{by-test}
-use Rattle.interval.specs.Limit.{SmallEnds, isSmall, pastEnd, boundedOf}
-use Rattle.interval.specs.declared.Interval.{Interval}
 use Rattle.replies.specs.declared.End.{End}
 use Rattle.replies.specs.declared.End.the-variants.{Low, High}
+use Rattle.interval.specs.Limit.{SmallEnds, isSmall, pastEnd, boundedOf}
+use Rattle.interval.specs.declared.Interval.{Interval}
 use Rattle.interval.specs.declared.Bounded.{Bounded}
 use Rattle.interval.specs.declared.Bounded.the-variants.{Within, Past}
 use Rattle.interval.proofs.Limit.{small-true, small-test}
@@ -24,20 +24,20 @@ module _ (i : Interval) where
     unfolding pastEnd
     high-past t = rw (s, t)
 
-    pub none-past : isSmall (i .high) ≡ true → pastEnd i ≡ []
+    pub neither-past : isSmall (i .high) ≡ true → pastEnd i ≡ []
     unfolding pastEnd
-    none-past t = rw (s, t)
+    neither-past t = rw (s, t)
 
   pub by-end : {A : Type 0} → (SmallEnds i → pastEnd i ≡ [] → A) → ((end : End) → pastEnd i ≡ end ∷ [] → A) → A
   by-end within past =
       by-test (isSmall (i .low))
       (λ s.
-      by-test (isSmall (i .high)) (λ t. within (record { low = small-true (i .low) s; high = small-true (i .high) t }) (none-past s t))
+      by-test (isSmall (i .high)) (λ t. within (record { low = small-true (i .low) s; high = small-true (i .high) t }) (neither-past s t))
       (λ t. past High (high-past s t)))
       (λ s. past Low (low-past s))
 
   pub ends-within : SmallEnds i → pastEnd i ≡ []
-  ends-within s = none-past (small-test (i .low) (s .low)) (small-test (i .high) (s .high))
+  ends-within s = neither-past (small-test (i .low) (s .low)) (small-test (i .high) (s .high))
 
   -- what is returned in each
   pub bounded-past : (end : End) → pastEnd i ≡ end ∷ [] → Past end ≡ boundedOf i

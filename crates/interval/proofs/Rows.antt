@@ -3,9 +3,9 @@ use mathlib.Core.Path.{_≡_, refl}
 use Prim.Native.Nat.{ℕ, _+_, _-_, _^_}
 use lib.IntN.{ℤ, pos, negℤ}
 use Rattle.integers.specs.Least.{lesserOf, greaterOf}
+use Rattle.replies.specs.declared.End.the-variants.{Low, High}
 use Rattle.interval.specs.Rules.{from, only, span, sum, difference, product, square}
 use Rattle.interval.specs.Limit.{isSmall, pastEnd, boundedOf}
-use Rattle.replies.specs.declared.End.the-variants.{Low, High}
 use Rattle.interval.specs.declared.Bounded.the-variants.{Within, Past}
 
 abbrev minus : ℕ → ℤ

@@ -5,9 +5,9 @@ use Prim.Native.Nat.{_≤_, _^_}
 use lib.Dec.{leb}
 use lib.IntN.{ℤ, natAbs}
 use Rattle.integers.specs.First.{onFirst}
-use Rattle.interval.specs.declared.Interval.{Interval}
 use Rattle.replies.specs.declared.End.{End}
 use Rattle.replies.specs.declared.End.the-variants.{Low, High}
+use Rattle.interval.specs.declared.Interval.{Interval}
 use Rattle.interval.specs.declared.Bounded.{Bounded}
 use Rattle.interval.specs.declared.Bounded.the-variants.{Within, Past}
 

@@ -1,6 +1,6 @@
 -- `interval::Interval::limited` meets its contract.
 use borrow.Author.Needs.{needs}
-use Rattle.interval.proofs.Facts.{low-past, high-past, none-past, bounded-past, bounded-within}
+use Rattle.interval.proofs.Facts.{low-past, high-past, neither-past, bounded-past, bounded-within}
 use Rattle.interval.proofs.Tests.{told-large, told-small}
 use Rattle.interval.proofs.Interval.limited.Statement.{statement}
 use Rattle.interval.proofs.Interval.limited.Tie as tie
@@ -18,7 +18,7 @@ returns-2 : tie.Need-returns-2
 returns-2 c = search (needs, bounded-past, high-past, told-small, told-large)
 
 returns-3 : tie.Need-returns-3
-returns-3 c = search (needs, bounded-within, none-past, told-small)
+returns-3 c = search (needs, bounded-within, neither-past, told-small)
 
 pub limited-spec : {M : Type 1} → statement M
 limited-spec = tie.close (tie.spec is-small-requires returns is-small-requires-2 returns-2 returns-3)

@@ -29,17 +29,15 @@ pub fn judge(s: &[u8], offsets: &[u16], count: usize, q: Cube, which: u8) -> Jud
     let mut faces = [0u8; 256];
     while b.count < count {
         let n = b.count;
+        let index = n as u8;
         let r = records::record_at(s, offsets[n] as usize);
         let v = match entries::bounds(r, q, &b.low, &b.high) {
             Bounded::Within(v) => v,
             Bounded::Past(end) => {
-                return Judged::Past(Over {
-                    index: n as u8,
-                    end,
-                });
+                return Judged::Past(Over { index, end });
             }
         };
-        let state = entries::state(r, n as u8, &b.low, &b.high, &classes, &faces);
+        let state = entries::state(r, index, &b.low, &b.high, &classes, &faces);
         classes[n] = state.class();
         faces[n] = state.face();
         let low = v.low;

@@ -15,6 +15,9 @@ abbrev μ-loop : tie.MeasureT-loop
 loop-holds : tie.Need-loop-holds Inv-loop μ-loop
 loop-holds c = search (needs, filling-start)
 
+cast-index : tie.Need-cast-index Inv-loop μ-loop
+cast-index c = fits-under _ _ 256 (search (needs, number-few)) tt
+
 mul-record-at : tie.Need-mul-record-at Inv-loop μ-loop
 mul-record-at c = scaled-fits _ 256 _ (search (needs, number-few)) (omega arith)
 
@@ -36,15 +39,9 @@ enum-known-v c = search needs
 enum-known-end : tie.Need-enum-known-end Inv-loop μ-loop
 enum-known-end c = search needs
 
-cast-t30 : tie.Need-cast-t30 Inv-loop μ-loop
-cast-t30 c = fits-under _ _ 256 (search (needs, number-few)) tt
-
 returns : tie.Need-returns Inv-loop μ-loop
 returns c =
     search (needs, judged-past _ _ _ _ _ _ _ _ _ (c .before .before .before .before .before .before .before .before .before .before .before .before .loop .inv))
-
-cast-state : tie.Need-cast-state Inv-loop μ-loop
-cast-state c = fits-under _ _ 256 (search (needs, number-few)) tt
 
 slice-aggregate-state : tie.Need-slice-aggregate-state Inv-loop μ-loop
 slice-aggregate-state c = search needs
@@ -108,6 +105,7 @@ judge-spec =
     Inv-loop
     μ-loop
     loop-holds
+    cast-index
     mul-record-at
     shared-slice-read-record-at
     cast-record-at
@@ -115,9 +113,7 @@ judge-spec =
     bounds-requires
     enum-known-v
     enum-known-end
-    cast-t30
     returns
-    cast-state
     slice-aggregate-state
     slice-aggregate-state-2
     state-requires

@@ -1,5 +1,5 @@
 -- What zone_build returns: code 0 exactly if no row of the table refuses, and if one does the lent buffer is unchanged.
-use mathlib.Core.Path.{_≡_, refl, sym, ap, _∙_}
+use mathlib.Core.Path.{_≡_, refl, sym, ap}
 use mathlib.Core.List.{List, [], _∷_}
 use Prim.Native.Nat.{ℕ}
 use native.Mathlib.Omega.{arith}
@@ -52,7 +52,7 @@ one-outcome told = record {
 -- ---- row 7, of a reply that has the number of the first record past the limit over the root
 pub row-7 : (rs : List Record) (q : Cube) (r : ZoneReply) → ((o : Over) → firstPast rs q ≡ o ∷ [] → r ≡ reply 7 (overNumber o)) → Row7 rs q r
 row-7 rs q r told = record {
-  low = λ n keep past. told (over n Low) (past-at rs q n Low keep (low-past (boundsOver rs q n) (large-test _ past))) ∙ ap (reply 7) (omega arith);
+  low = λ n keep past. told (over n Low) (past-at rs q n Low keep (low-past (boundsOver rs q n) (large-test _ past)));
   high = λ n keep small past. told (over n High) (past-at rs q n High keep (high-past (boundsOver rs q n) (small-test _ small) (large-test _ past)));
 }
 

@@ -43,13 +43,10 @@ and-first b x y e t = rw (sym e, t)
 pub and-second : (b d x y : Bool) → b ≡ x → b ≡ true → d ≡ y → d ≡ (x && y)
 and-second b d x y e t f = rw (sym e, t) f
 
--- ---- limited: b is what a call of `is_small` returned
-module _ (b : Bool) (z : ℤ) where
-  pub told-large : not b ≡ true → SFits w64 z → b ≡ isSmall (toZ w64 (ofZ w64 z)) → isSmall z ≡ false
-  told-large t f e = sym (rw (toZ-ofZ f) at e) ∙ not-true b t
-
-  pub told-small : not b ≡ false → SFits w64 z → b ≡ isSmall (toZ w64 (ofZ w64 z)) → isSmall z ≡ true
-  told-small t f e = sym (rw (toZ-ofZ f) at e) ∙ not-false b t
+-- ---- limited: b is what a call of `is_small` returned, and the code tests `!b`
+pub small-told : (b small : Bool) (z : ℤ) → not b ≡ not small → SFits w64 z → b ≡ isSmall (toZ w64 (ofZ w64 z)) → isSmall z ≡ small
+small-told b true z t f e = sym (rw (toZ-ofZ f) at e) ∙ not-false b t
+small-told b false z t f e = sym (rw (toZ-ofZ f) at e) ∙ not-true b t
 
 -- ---- lesser and greater: x or y, by the order of a and b
 module _ (a b x y : ℤ) (fa : SFits w64 a) (fb : SFits w64 b) where

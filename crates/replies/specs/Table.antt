@@ -26,12 +26,12 @@ abbrev pub over : ℕ → End → Over
 over n end = record { index = n; end = end }
 
 -- twice the record's number, plus 1 for the high end
-abbrev pub endNumber : End → ℕ
-endNumber Low = 0
-endNumber High = 1
+abbrev pub withEnd : ℕ → End → ℕ
+withEnd twice Low = twice
+withEnd twice High = twice + 1
 
 abbrev pub overNumber : Over → ℕ
-overNumber o = 2 * o .index + endNumber (o .end)
+overNumber o = withEnd (2 * o .index) (o .end)
 
 abbrev pub numberOf : Refusal → ℕ
 numberOf Length = 0

@@ -1,6 +1,6 @@
 -- `replies::Over::number` meets its contract.
 use borrow.Author.Needs.{needs}
-use Rattle.replies.proofs.Numbers.{low-number, high-number}
+use Rattle.replies.proofs.Numbers.{end-number}
 use Rattle.replies.proofs.Over.number.Statement.{statement}
 use Rattle.replies.proofs.Over.number.Tie as tie
 
@@ -20,10 +20,10 @@ add-result : tie.Need-add-result
 add-result c = search needs
 
 returns : tie.Need-returns
-returns c = search (needs, low-number)
+returns c = search (needs, end-number)
 
 returns-2 : tie.Need-returns-2
-returns-2 c = search (needs, high-number)
+returns-2 c = search (needs, end-number)
 
 pub number-spec : {M : Type 1} → statement M
 number-spec =

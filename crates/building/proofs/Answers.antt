@@ -21,7 +21,7 @@ use Rattle.cube.specs.Cubes.{rootCube}
 use Rattle.colour.specs.Entries.{firstPast}
 use Rattle.integers.specs.First.{onFirst}
 use Rattle.integers.proofs.First.{none-first}
-use Rattle.building.specs.Build.{Outcome, outcome, builtMap, storedOf, overRootOf, buildOf}
+use Rattle.building.specs.Build.{Outcome, outcome, storedOf, overRootWith, buildWith}
 
 abbrev isDone : Reply → Bool
 isDone (Done n) = true
@@ -49,31 +49,34 @@ module _ (n : ℕ) (out after : List ℕ) where
       (λ h. no-other (outcome (Refused (Short (length map))) out) refl (rw h at e))
       (λ h. (ap (λ (o : Outcome). countOf (o .reply)) (rw h at e), ltb-false (length out) (length map) h, ap (λ (o : Outcome). o .buffer) (rw h at e)))
 
-  -- no row refuses, and the map of these records over this root is at the start of the buffer
-  pub record Made (rs : List Record) (root : Root) : Type 0 where
+  -- no row refuses, and the map is at the start of the buffer
+  pub record Made (rs : List Record) (root : Root) (map : List ℕ) : Type 0 where
     pub within : inLimits root ≡ true
     pub none : firstPast rs (rootCube root) ≡ []
-    pub size : n ≡ length (builtMap rs root)
+    pub size : n ≡ length map
     pub room : n ≤ length out
-    pub bytes : after ≡ builtMap rs root ++ drop (length (builtMap rs root)) out
+    pub bytes : after ≡ map ++ drop (length map) out
 
-  module _ (rs : List Record) (root : Root) where
-    stored-made : inLimits root ≡ true → (firstPast rs (rootCube root) ≡ []) × (done ≡ storedOf (builtMap rs root) out) → Made rs root
+  module _ (mapOver : List Record → Root → List ℕ) (rs : List Record) (root : Root) where
+    abbrev map : List ℕ
+    map = mapOver rs root
+
+    stored-made : inLimits root ≡ true → (firstPast rs (rootCube root) ≡ []) × (done ≡ storedOf map out) → Made rs root map
     stored-made w e =
-        let t = stored (builtMap rs root) (e .1) in
+        let t = stored map (e .1) in
         record { within = w; none = e .0; size = t .0; room = omega (arith, t .0, t .1); bytes = t .2 }
 
-    solid-made : done ≡ overRootOf rs root out → Made rs root
-    unfolding overRootOf
+    solid-made : done ≡ overRootWith mapOver rs root out → Made rs root map
+    unfolding overRootWith
     solid-made e =
         by-test (inLimits root)
         (λ h. stored-made h (not-first (firstPast rs (rootCube root)) (λ k. outcome (Refused (OverRoot k)) out) _ (λ k. refl) (rw h at e)))
         (λ h. no-other (outcome (Refused Limits) out) refl (rw h at e))
 
-module _ (s : List ℕ) (root : Root) (out after : List ℕ) (n : ℕ) where
+module _ (mapOver : List Record → Root → List ℕ) (s : List ℕ) (root : Root) (out after : List ℕ) (n : ℕ) where
   -- the sheet is good, and its map is at the start of the buffer
-  pub done-made : outcome (Done n) after ≡ buildOf s root out → (refusalOf (checkOf s) ≡ []) × Made n out after (recordsOf s) root
-  unfolding buildOf
+  pub done-made : outcome (Done n) after ≡ buildWith mapOver s root out → (refusalOf (checkOf s) ≡ []) × Made n out after (recordsOf s) root (mapOver (recordsOf s) root)
+  unfolding buildWith
   done-made e =
       let t = not-first n out after (refusalOf (checkOf s)) (λ why. outcome (Refused why) out) _ (λ why. refl) e in
-      (t .0, solid-made n out after (recordsOf s) root (t .1))
+      (t .0, solid-made n out after mapOver (recordsOf s) root (t .1))

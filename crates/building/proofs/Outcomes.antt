@@ -35,14 +35,14 @@ use Rattle.colour.proofs.Told.{known-none, past-first}
 use Rattle.zonemap.specs.declared.Leaf.{Leaf}
 use Rattle.zonemap.specs.Map.{headerOf, leavesBytes, mapOf}
 use Rattle.zonemap.proofs.Bytes.{header-length, map-length}
-use Rattle.tree.specs.Solid.{leavesBelow}
-use Rattle.building.specs.Build.{Outcome, outcome, builtMap, storedOf, overRootOf, buildOf}
+use Rattle.tree.specs.Solid.{solidState, leavesBelow}
+use Rattle.building.specs.Build.{Outcome, outcome, mapBy, builtMap, storedOf, overRootWith, overRootOf, buildWith, buildOf}
 use Rattle.tree.proofs.Cubes.{leaves-few}
 
 -- ---- replies 1 to 5: r is what `check` returned
 module _ (s : List ℕ) (r : Reply) (e : r ≡ checkOf s) where
   pub bad-sheet : (why : Refusal) → r ≡ Refused why → (root : Root) (d : List ℕ) → outcome (Refused why) d ≡ buildOf s root d
-  unfolding buildOf
+  unfolding buildWith
   bad-sheet why h root d = rw (sym e ∙ h)
 
   module _ (n : ℕ) (h : r ≡ Done n) where
@@ -56,13 +56,13 @@ module _ (s : List ℕ) (r : Reply) (e : r ≡ checkOf s) where
     pub good-sheet : (x y z : ℤ) → SFits w32 x → SFits w32 y → SFits w32 z → (k depth : ℕ) (d : List ℕ) (o : Outcome)
         → o ≡ overRootOf (recordsOf s) (passedRoot x y z k depth) d
         → o ≡ buildOf s (record { x = x; y = y; z = z; k = k; d = depth }) d
-    unfolding buildOf
+    unfolding buildWith
     good-sheet x y z fx fy fz k depth d o g = rw (sym e ∙ h) (rw (same-root x y z fx fy fz k depth) at g)
 
 -- ---- reply 6: b is what `is_within` returned
 module _ (root : Root) (b : Bool) (e : b ≡ inLimits root) where
   pub outside : not b ≡ true → (rs : List Record) (d : List ℕ) → outcome (Refused Limits) d ≡ overRootOf rs root d
-  unfolding overRootOf
+  unfolding overRootWith
   outside t rs d = rw (sym e ∙ not-true b t)
 
   pub within : not b ≡ false → inLimits root ≡ true
@@ -71,11 +71,11 @@ module _ (root : Root) (b : Bool) (e : b ≡ inLimits root) where
 -- ---- reply 7: q is what `cube` returned, and j what `judge` did
 module _ (root : Root) (w : inLimits root ≡ true) (q : Cube) (is : q ≡ rootCube root) (rs : List Record) (solid : ℕ) (j : Judged) (e : j ≡ judgedOf rs q solid) where
   pub over-root : (o : Over) → j ≡ Past o → (d : List ℕ) → outcome (Refused (OverRoot o)) d ≡ overRootOf rs root d
-  unfolding overRootOf
+  unfolding overRootWith
   over-root o h d = rw (w, past-first rs (rootCube root) q is solid j e o h)
 
   pub under-limit : (state : State) → j ≡ Known state → (d : List ℕ) (o : Outcome) → o ≡ storedOf (builtMap rs root) d → o ≡ overRootOf rs root d
-  unfolding overRootOf
+  unfolding overRootWith
   under-limit state h d o k = rw (w, known-none rs (rootCube root) q is solid j e state h) k
 
 -- ---- reply 8, or the map: q is what `cube` returned, and n what `count` did
@@ -83,10 +83,10 @@ module _ (root : Root) (q : Cube) (is : q ≡ rootCube root) (rs : List Record) 
   pub still-none : firstPast rs (rootCube root) ≡ [] → firstPast rs q ≡ []
   still-none h = rw is h
 
-  module _ (n : ℕ) (count : n ≡ length (leavesBelow rs (root .d) q)) where
+  module _ (n : ℕ) (count : n ≡ length (leavesBelow (solidState rs) (root .d) q)) where
     module _ (w : inLimits root ≡ true) where
       pub count-few : n ≤ 2 ^ 30
-      count-few = rw count (leaves-few rs (root .d) q (limits-sizes root w .1))
+      count-few = rw count (leaves-few (solidState rs) (root .d) q (limits-sizes root w .1))
 
       pub count-fits : Fits w32 n
       count-fits = record { fits = omega (arith, count-few) }
@@ -98,7 +98,7 @@ module _ (root : Root) (q : Cube) (is : q ≡ rootCube root) (rs : List Record) 
       need-fits = record { fits = omega (arith, count-few) }
 
     length-is : length (builtMap rs root) ≡ 19 + 3 * n
-    unfolding builtMap
+    unfolding mapBy
     length-is = map-length root _ ∙ rw (count, is)
 
     pub too-short : (d : List ℕ) → length d < 19 + 3 * n → outcome (Refused (Short (19 + 3 * n))) d ≡ storedOf (builtMap rs root) d
@@ -108,7 +108,7 @@ module _ (root : Root) (q : Cube) (is : q ≡ rootCube root) (rs : List Record) 
     -- top is what `cube` returned the second time
     module _ (d : List ℕ) (room : 19 + 3 * n ≤ length d) (d₁ : List ℕ) (header : d₁ ≡ sets d 0 (headerOf root n)) (top : Cube) (same : top ≡ rootCube root) where
       abbrev ls : List Leaf
-      ls = leavesBelow rs (root .d) top
+      ls = leavesBelow (solidState rs) (root .d) top
 
       count-is : n ≡ length ls
       count-is = count ∙ rw (is, same)
@@ -118,7 +118,7 @@ module _ (root : Root) (q : Cube) (is : q ≡ rootCube root) (rs : List Record) 
 
       module _ (d₂ : List ℕ) (leaves : d₂ ≡ sets d₁ 19 (leavesBytes ls)) where
         stored : d₂ ≡ sets d 0 (builtMap rs root)
-        unfolding builtMap mapOf
+        unfolding mapBy mapOf
         stored =
             leaves
             ∙ ap (λ (x : List ℕ). sets x 19 (leavesBytes ls)) header

@@ -12,22 +12,22 @@ use Rattle.sheet.proofs.StepRoom.{step-records, step-check}
 use Rattle.cube.specs.Limits.{axisFits, sizesFit, inLimits}
 use Rattle.cube.specs.Cubes.{rootCube}
 use Rattle.colour.specs.Bounds.{across, boundsOf}
-use Rattle.colour.specs.Entries.{entryOf, pastFrom, firstPast}
+use Rattle.colour.specs.Entries.{entryWith, pastFrom, firstPast}
 use Rattle.zonemap.specs.declared.Leaf.{Leaf}
 use Rattle.zonemap.specs.Map.{leafBytes, leavesBytes, cornerBytes, headerOf, mapOf}
 use Rattle.zonemap.specs.StepRoom.{stepRoot, stepMap}
 use Rattle.tree.proofs.Rows.{leaf, depth-0, depth-1}
-use Rattle.building.specs.Build.{builtMap, storedOf, overRootOf, buildOf}
+use Rattle.building.specs.Build.{mapBy, builtMap, storedOf, overRootWith, buildWith, buildOf}
 
 -- the map of S at d 1, byte by byte
 pub map-1 : builtMap stepRecords (stepRoot 1) ≡ stepMap
-unfolding builtMap mapOf headerOf cornerBytes bytesOf unsigned32 leavesBytes leafBytes
+unfolding mapBy mapOf headerOf cornerBytes bytesOf unsigned32 leavesBytes leafBytes
 map-1 = ap (mapOf (stepRoot 1)) depth-1
 
 -- ---- what building returns
 -- no record passes 2^60 over the root
 step-none : (d : ℕ) → firstPast stepRecords (rootCube (stepRoot d)) ≡ []
-unfolding firstPast along onward entryOf boundsOf across sum difference rootCube pastFrom pastEnd isSmall
+unfolding firstPast along onward entryWith boundsOf across sum difference rootCube pastFrom pastEnd isSmall
 step-none d = refl
 
 -- the depths in document 01
@@ -41,12 +41,12 @@ unfolding inLimits sizesFit axisFits
 within = record { at-0 = refl; at-1 = refl; at-2 = refl }
 
 step-build : (d : ℕ) → inLimits (stepRoot d) ≡ true → (out : List ℕ) → buildOf stepSheet (stepRoot d) out ≡ storedOf (builtMap stepRecords (stepRoot d)) out
-unfolding buildOf overRootOf
+unfolding buildWith overRootWith
 step-build d within out = rw (step-check, step-records, within, step-none d)
 
 -- S at d 0: 22 bytes
 pub build-0 : (out : List ℕ) → buildOf stepSheet (stepRoot 0) out ≡ storedOf (mapOf (stepRoot 0) (leaf 0 4 0 ∷ [])) out
-unfolding builtMap
+unfolding mapBy
 build-0 out = step-build 0 (within .at-0) out ∙ ap (λ (ls : List Leaf). storedOf (mapOf (stepRoot 0) ls) out) depth-0
 
 -- S at d 1: the 43 bytes above

@@ -23,7 +23,7 @@ use Rattle.sheet.specs.Operands.{firstOf, secondOf}
 use Rattle.cube.specs.declared.Cube.{Cube}
 use Rattle.colour.specs.declared.State.{State}
 use Rattle.colour.specs.Bounds.{across, none, boundsOf}
-use Rattle.colour.specs.States.{faceState, bothOf, eitherOf, complementOf, stateOf}
+use Rattle.colour.specs.States.{faceState, bothOf, eitherOf, complementOf, stateWith, stateOf}
 use Rattle.colour.specs.Held.{Held, heldAt, stateBy}
 
 -- an interval whose ends are within the limit is returned as it is
@@ -86,17 +86,17 @@ module _ (low high : List ℤ) (classes faces : List ℕ) (n : ℕ) (r : Record)
   due = stateOf n (heldAt low high (firstOf r)) (stated (firstOf r)) (stated (secondOf r)) r
 
   pub face-arm : (a : ℕ) (i : Interval) (k : State) → r ≡ Face a → i ≡ heldAt low high a → k ≡ faceState i n → k ≡ due
-  unfolding stateOf
+  unfolding stateWith
   face-arm a i k e f h = rw (e, ← f) h
 
   pub both-arm : (a c : ℕ) (s t k : State) → r ≡ Both a c → s ≡ stated a → t ≡ stated c → k ≡ bothOf s t → k ≡ due
-  unfolding stateOf
+  unfolding stateWith
   both-arm a c s t k e f g h = rw (e, ← f, ← g) h
 
   pub either-arm : (a c : ℕ) (s t k : State) → r ≡ Either a c → s ≡ stated a → t ≡ stated c → k ≡ eitherOf s t → k ≡ due
-  unfolding stateOf
+  unfolding stateWith
   either-arm a c s t k e f g h = rw (e, ← f, ← g) h
 
   pub complement-arm : (a : ℕ) (s k : State) → r ≡ Complement a → s ≡ stated a → k ≡ complementOf s → k ≡ due
-  unfolding stateOf
+  unfolding stateWith
   complement-arm a s k e f h = rw (e, ← f) h

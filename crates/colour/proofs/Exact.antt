@@ -12,7 +12,7 @@ use Rattle.sheet.specs.declared.Record.the-variants.{Constant, X, Y, Z, Sum, Di
 use Rattle.sheet.proofs.Along.{Pairs, related}
 use Rattle.cube.specs.declared.Cube.{Cube}
 use Rattle.colour.specs.Bounds.{across, boundsOf}
-use Rattle.colour.specs.Entries.{Entry, blank, faceBounds, entryOf, entries}
+use Rattle.colour.specs.Entries.{Entry, blank, faceBounds, entryWith, entryOf, entries}
 
 -- an interval of one number
 abbrev pub One : Interval → Type 0
@@ -40,7 +40,7 @@ module _ (q : Cube) (point : q .side ≡ 0) where
   Exact e _ = One (e .bounds)
 
   step-one : (es fs : List Entry) (r : Record) → Pairs Exact blank blank es fs → Exact (entryOf q es r) (entryOf q fs r)
-  unfolding entryOf boundsOf
+  unfolding entryWith boundsOf
   step-one es fs (Constant c) p = (c, refl)
   step-one es fs X p = across-one (q .x) (q .side) point
   step-one es fs Y p = across-one (q .y) (q .side) point

@@ -32,12 +32,12 @@ use Rattle.records.specs.Offsets.{Offsets}
 use Rattle.records.proofs.Listed.{before-offset, listed-stands}
 use Rattle.cube.specs.declared.Cube.{Cube}
 use Rattle.colour.specs.declared.State.{State}
-use Rattle.colour.specs.declared.State.the-variants.{Out, In, Single, Comp, Mixed}
 use Rattle.colour.specs.declared.Judged.the-variants.{Known, Past}
 use Rattle.colour.specs.Bounds.{boundsOf}
 use Rattle.colour.specs.States.{classOf, faceOf, stateOf}
 use Rattle.colour.specs.Held.{Held, heldAt, stateBy}
-use Rattle.colour.specs.Entries.{Entry, blank, faceBounds, entryOf, entries, pastFrom, firstPast, judgedOf}
+use Rattle.colour.specs.Entries.{Entry, blank, faceBounds, entryWith, entryOf, entries, pastFrom, firstPast, judgedOf}
+use Rattle.colour.proofs.Otherwise.{back-again}
 use Rattle.colour.proofs.Arms.{zero-small}
 use Rattle.colour.proofs.FirstPast.{Keep, past-at, none-past, keep-more}
 
@@ -78,15 +78,6 @@ filling-start s offsets count q listed all =
       faced = filled-with 0 256;
       keep = λ a. zero-small;
     }
-
--- a class and a face are a state again
-pub back-again : (k : State) → stateBy (classOf k) (faceOf k) ≡ k
-unfolding stateBy
-back-again Out = refl
-back-again In = refl
-back-again (Single f) = refl
-back-again (Comp f) = refl
-back-again Mixed = refl
 
 module _ (s offsets : List ℕ) (count : ℕ) (q : Cube) (low high : List ℤ) (n : ℕ) (classes faces : List ℕ) (w : Filling s offsets count q low high n classes faces) where
   abbrev rs : List Record
@@ -155,11 +146,11 @@ module _ (s offsets : List ℕ) (count : ℕ) (q : Cube) (low high : List ℤ) (
     second = secondOf r
 
     bounds-are : boundsOf q (heldAt low high first) (heldAt low high second) r ≡ this .bounds
-    unfolding entryOf
+    unfolding entryWith
     bounds-are = rw (operand first, operand second)
 
     state-is : stateOf n (heldAt low high first) (stated first) (stated second) r ≡ this .state
-    unfolding entryOf
+    unfolding entryWith
     state-is = rw (given first, coloured first, coloured second, long)
 
     walk : Before s (getD offsets n 0) n

@@ -2,6 +2,7 @@ pub mod Coordinates
 pub mod Arms
 pub mod Filling
 pub mod Rows
+pub mod Otherwise
 pub mod Joined
 pub mod Turned
 pub mod FirstPast

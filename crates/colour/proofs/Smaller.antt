@@ -18,7 +18,7 @@ use Rattle.sheet.proofs.Along.{Pairs, related}
 use Rattle.cube.specs.declared.Cube.{Cube}
 use Rattle.cube.specs.Points.{CubeInside}
 use Rattle.colour.specs.Bounds.{across, boundsOf}
-use Rattle.colour.specs.Entries.{Entry, blank, entryOf, entries, firstPast}
+use Rattle.colour.specs.Entries.{Entry, blank, entryWith, entryOf, entries, firstPast}
 use Rattle.colour.proofs.FirstPast.{Keep, none-past, all-keep}
 
 across-inside : (a b : ℤ) (n m : ℕ) → b ≤ℤ a → (a +ℤ pos n) ≤ℤ (b +ℤ pos m) → Inside (across a n) (across b m)
@@ -31,7 +31,7 @@ module _ (q outer : Cube) (h : CubeInside q outer) where
   Within e f = Inside (e .bounds) (f .bounds)
 
   step-inside : (es fs : List Entry) (r : Record) → Pairs Within blank blank es fs → Within (entryOf q es r) (entryOf outer fs r)
-  unfolding entryOf boundsOf
+  unfolding entryWith boundsOf
   step-inside es fs (Constant c) p = only-inside c
   step-inside es fs X p = across-inside _ _ _ _ (h .x-low) (h .x-high)
   step-inside es fs Y p = across-inside _ _ _ _ (h .y-low) (h .y-high)

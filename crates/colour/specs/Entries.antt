@@ -16,7 +16,7 @@ use Rattle.colour.specs.declared.State.the-variants.{Out}
 use Rattle.colour.specs.declared.Judged.{Judged}
 use Rattle.colour.specs.declared.Judged.the-variants.{Known, Past}
 use Rattle.colour.specs.Bounds.{none, boundsOf}
-use Rattle.colour.specs.States.{stateOf}
+use Rattle.colour.specs.States.{otherwiseOf, stateWith}
 
 -- a record's bounds, and its state
 pub record Entry : Type 0 where
@@ -31,15 +31,19 @@ blank = record { bounds = none; state = Out }
 unfoldable pub faceBounds : Cube → Entry → Interval
 faceBounds q operand = operand .bounds
 
--- a record's entry, from the entries before it
-unfoldable pub entryOf : Cube → List Entry → Record → Entry
-entryOf q before r =
+-- a record's entry, from the entries before it, by the rules over `otherwise`
+unfoldable pub entryWith : (State → State → State → State) → Cube → List Entry → Record → Entry
+entryWith otherwise q before r =
     let first = getD before (firstOf r) blank in
     let second = getD before (secondOf r) blank in
     record {
       bounds = boundsOf q (first .bounds) (second .bounds) r;
-      state = stateOf (length before) (faceBounds q first) (first .state) (second .state) r;
+      state = stateWith otherwise (length before) (faceBounds q first) (first .state) (second .state) r;
     }
+
+-- by today's rule
+abbrev pub entryOf : Cube → List Entry → Record → Entry
+entryOf = entryWith otherwiseOf
 
 -- The bounds of all records of a cube are held together.
 abbrev pub entries : Cube → List Record → List Entry

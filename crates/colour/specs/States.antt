@@ -1,6 +1,7 @@
 -- Colour of a cube: the state of one logical record, and the class and face of a state.
 use Prim.Native.Nat.{ℕ}
-use mathlib.Core.Bool.{Bool, true, false, cond, _||_}
+use mathlib.Core.Bool.{Bool, true, false, cond, _&&_, _||_}
+use lib.Dec.{eqb}
 use lib.IntN.{pos}
 use lib.Signed.{leZ, ltZ}
 use Rattle.interval.specs.declared.Interval.{Interval}
@@ -23,49 +24,6 @@ isOut (Single f) = false
 isOut (Comp f) = false
 isOut Mixed = false
 
--- face with bounds [a,b]: In if b <= 0; Out if a > 0; else Single(that face)
-unfoldable pub faceState : Interval → ℕ → State
-faceState i f = cond (leZ (i .high) (pos 0)) In (cond (ltZ (pos 0) (i .low)) Out (Single f))
-
--- complement: In and Out change places; Single(f) and Comp(f) change places; Mixed stays
-abbrev pub complementOf : State → State
-complementOf Out = In
-complementOf In = Out
-complementOf (Single f) = Comp f
-complementOf (Comp f) = Single f
-complementOf Mixed = Mixed
-
--- what two states give if neither decides and neither leaves it to the other: Mixed
-unfoldable pub otherwiseOf : State → State → State → State
-otherwiseOf decided s t = Mixed
-
--- Both and either join two states by one rule: `decided` if either decides; otherwise if one leaves it to the other, the other's state; otherwise Mixed.
-unfoldable pub joinedBy : (State → Bool) → State → (State → Bool) → State → State → State
-joinedBy decides decided leaves s t = cond (decides s || decides t) decided (cond (leaves s) t (cond (leaves t) s (otherwiseOf decided s t)))
-
--- both: Out if either is Out; otherwise if one is In, the other's state; otherwise Mixed
-abbrev pub bothOf : State → State → State
-bothOf s t = joinedBy isOut Out isIn s t
-
--- either: In if either is In; otherwise if one is Out, the other's state; otherwise Mixed
-abbrev pub eitherOf : State → State → State
-eitherOf s t = joinedBy isIn In isOut s t
-
--- the state of record n, where a face is coloured by the bounds i, and s and t are the states of the operands; an arithmetic record says nothing
-unfoldable pub stateOf : ℕ → Interval → State → State → Record → State
-stateOf n i s t (Constant c) = Mixed
-stateOf n i s t X = Mixed
-stateOf n i s t Y = Mixed
-stateOf n i s t Z = Mixed
-stateOf n i s t (Sum a b) = Mixed
-stateOf n i s t (Difference a b) = Mixed
-stateOf n i s t (Product a b) = Mixed
-stateOf n i s t (Square a) = Mixed
-stateOf n i s t (Face a) = faceState i n
-stateOf n i s t (Both a b) = bothOf s t
-stateOf n i s t (Either a b) = eitherOf s t
-stateOf n i s t (Complement a) = complementOf s
-
 -- The solid's state gives the class: Out white 0, In black 1, Single terminal 2, Comp terminal 3, Mixed gray 4.
 abbrev pub classOf : State → ℕ
 classOf Out = 0
@@ -81,3 +39,64 @@ faceOf In = 0
 faceOf (Single f) = f
 faceOf (Comp f) = f
 faceOf Mixed = 0
+
+-- whether two states are the same: they have one class and name one face
+unfoldable pub isSame : State → State → Bool
+isSame s t = eqb (classOf s) (classOf t) && eqb (faceOf s) (faceOf t)
+
+-- face with bounds [a,b]: In if b <= 0; Out if a > 0; else Single(that face)
+unfoldable pub faceState : Interval → ℕ → State
+faceState i f = cond (leZ (i .high) (pos 0)) In (cond (ltZ (pos 0) (i .low)) Out (Single f))
+
+-- complement: In and Out change places; Single(f) and Comp(f) change places; Mixed stays
+abbrev pub complementOf : State → State
+complementOf Out = In
+complementOf In = Out
+complementOf (Single f) = Comp f
+complementOf (Comp f) = Single f
+complementOf Mixed = Mixed
+
+-- What both and either give where neither state decides and neither leaves it to the other. Request 2026-03: "both or either of Single(f) with Single(f) is
+-- Single(f), and likewise Comp(f); both of Single(f) with Comp(f), in either order, is Out, and either of them is In. Different faces stay Mixed." So a state with
+-- itself is that state (Mixed stays Mixed), and with its complement it is `decided`: Out for both, In for either.
+unfoldable pub otherwiseOf : State → State → State → State
+otherwiseOf decided s t = cond (isSame s t) s (cond (isSame s (complementOf t)) decided Mixed)
+
+-- The rules are over `otherwise`, which is that rule today. Before request 2026-03 it gave Mixed for all states, and such maps are still about.
+module _ (otherwise : State → State → State → State) where
+  -- Both and either join two states by one rule: `decided` if either decides; otherwise if one leaves it to the other, the other's state; otherwise as above.
+  unfoldable pub joinedBy : (State → Bool) → State → (State → Bool) → State → State → State
+  joinedBy decides decided leaves s t = cond (decides s || decides t) decided (cond (leaves s) t (cond (leaves t) s (otherwise decided s t)))
+
+  -- both: Out if either is Out; otherwise if one is In, the other's state; otherwise as above
+  abbrev pub bothWith : State → State → State
+  bothWith s t = joinedBy isOut Out isIn s t
+
+  -- either: In if either is In; otherwise if one is Out, the other's state; otherwise as above
+  abbrev pub eitherWith : State → State → State
+  eitherWith s t = joinedBy isIn In isOut s t
+
+  -- the state of record n, where a face is coloured by the bounds i, and s and t are the states of the operands; an arithmetic record says nothing
+  unfoldable pub stateWith : ℕ → Interval → State → State → Record → State
+  stateWith n i s t (Constant c) = Mixed
+  stateWith n i s t X = Mixed
+  stateWith n i s t Y = Mixed
+  stateWith n i s t Z = Mixed
+  stateWith n i s t (Sum a b) = Mixed
+  stateWith n i s t (Difference a b) = Mixed
+  stateWith n i s t (Product a b) = Mixed
+  stateWith n i s t (Square a) = Mixed
+  stateWith n i s t (Face a) = faceState i n
+  stateWith n i s t (Both a b) = bothWith s t
+  stateWith n i s t (Either a b) = eitherWith s t
+  stateWith n i s t (Complement a) = complementOf s
+
+-- by today's rule
+abbrev pub bothOf : State → State → State
+bothOf = bothWith otherwiseOf
+
+abbrev pub eitherOf : State → State → State
+eitherOf = eitherWith otherwiseOf
+
+abbrev pub stateOf : ℕ → Interval → State → State → Record → State
+stateOf = stateWith otherwiseOf

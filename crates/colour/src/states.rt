@@ -2,7 +2,7 @@
 
 ghost use mathlib.Core.Path.{_≡_};
 ghost use lib.ListN.{length, getD};
-ghost use Rattle.colour.specs.States.{isIn, isOut, faceState, complementOf, bothOf, eitherOf, classOf, faceOf};
+ghost use Rattle.colour.specs.States.{isIn, isOut, isSame, faceState, complementOf, otherwiseOf, bothOf, eitherOf, classOf, faceOf};
 ghost use Rattle.colour.specs.Held.{stateBy};
 use crate::State;
 use interval::Interval;
@@ -72,6 +72,26 @@ impl State {
         }
     }
 
+    // Whether two states are the same: they have the same class and name the same face.
+    fn is_same(self, other: State) -> bool
+        ensures { λ r. ⌜ r ≡ isSame self other ⌝ }
+    {
+        self.class() == other.class() && self.face() == other.face()
+    }
+
+    // What both and either give if neither state decides and neither leaves it to the other. `decided` is what they give of a face and its complement.
+    fn otherwise(self, other: State, decided: State) -> State
+        ensures { λ r. ⌜ r ≡ otherwiseOf decided self other ⌝ }
+    {
+        if self.is_same(other) {
+            return self; // one face, mentioned twice
+        }
+        if self.is_same(other.complement()) {
+            return decided;
+        }
+        State::Mixed
+    }
+
     pub fn both(self, other: State) -> State
         ensures { λ r. ⌜ r ≡ bothOf self other ⌝ }
     {
@@ -87,7 +107,7 @@ impl State {
         if other.is_in() {
             return self;
         }
-        State::Mixed
+        self.otherwise(other, State::Out)
     }
 
     pub fn either(self, other: State) -> State
@@ -105,7 +125,7 @@ impl State {
         if other.is_out() {
             return self; // the other holds nowhere
         }
-        State::Mixed
+        self.otherwise(other, State::In)
     }
 
     // The class of a leaf.

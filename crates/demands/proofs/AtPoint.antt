@@ -22,8 +22,8 @@ use Rattle.meaning.specs.Fractions.{whole}
 use Rattle.meaning.specs.Truth.{holdsAt}
 use Rattle.meaning.proofs.Whole.{in-itself}
 use Rattle.colour.specs.declared.State.the-variants.{Out, In}
-use Rattle.colour.specs.States.{isIn, faceState, stateOf}
-use Rattle.colour.specs.Entries.{Entry, blank, entryOf, entries}
+use Rattle.colour.specs.States.{isIn, faceState, stateWith}
+use Rattle.colour.specs.Entries.{Entry, blank, entryWith, entryOf, entries}
 use Rattle.colour.proofs.Exact.{exact-face}
 use Rattle.soundness.specs.Claims.{Sound}
 use Rattle.soundness.proofs.StatesSound.{states-sound}
@@ -70,7 +70,7 @@ told face v f b h =
 module _ (rs : List Record) (f : ℕ) (p : Point) (e : hasFace rs f ≡ true) where
   -- at the point, the face's state is its state over an interval of one number
   state-is : (v : ℤ) × (getD (entries (pointCube p) rs) f blank .state ≡ faceState (only v) f)
-  unfolding entryOf stateOf hasFace
+  unfolding entryWith stateWith hasFace
   state-is =
       let q : Cube = pointCube p in
       let l = face-among rs f e in

@@ -12,6 +12,7 @@ use Rattle.demands.proofs.Lookups.{looks-up, lookup-refused, lookup-row
 use Rattle.demands.proofs.Rows.{rows}
 use Rattle.demands.proofs.LimitRows.{limit-rows}
 use Rattle.demands.proofs.Row11.{reply-11}
+use Rattle.demands.proofs.SameFace.{same-face, mentioned-twice}
 
 table : Table
 table = record {
@@ -51,4 +52,13 @@ demand-3 = record {
 }
 
 pub demands : Demands
-demands = record { first = demand-1; second = demand-2; third = demand-3; rows = rows; limit-rows = limit-rows; reply-11 = reply-11 }
+demands = record {
+  first = demand-1;
+  second = demand-2;
+  third = demand-3;
+  rows = rows;
+  limit-rows = limit-rows;
+  reply-11 = reply-11;
+  same-face = same-face;
+  mentioned-twice = mentioned-twice;
+}

@@ -10,6 +10,8 @@ pub mod Lookups
 pub mod Rows
 pub mod LimitRows
 pub mod Row11
+pub mod Before03
+pub mod SameFace
 pub mod Kept
 pub mod Contracts
 pub mod Returns

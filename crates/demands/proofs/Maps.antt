@@ -11,20 +11,23 @@ use Rattle.sheet.specs.Records.{recordsOf}
 use Rattle.sheet.specs.Check.{checkOf}
 use Rattle.records.specs.Faces.{hasFace}
 use Rattle.cube.specs.declared.Root.{Root}
+use Rattle.cube.specs.declared.Cube.{Cube}
 use Rattle.cube.specs.declared.Point.{Point}
 use Rattle.cube.specs.Limits.{inLimits}
 use Rattle.cube.specs.Cubes.{rootCube}
 use Rattle.cube.specs.Points.{InRoot}
+use Rattle.colour.specs.declared.State.{State}
 use Rattle.colour.proofs.Smaller.{none-keep}
-use Rattle.zonemap.specs.Opening.{rootOf, leavesOf, faultOf}
+use Rattle.zonemap.specs.Opening.{rootOf, leavesOf, faceGood, faultOf}
 use Rattle.zonemap.specs.Leaves.{nthLeaf, nthCube}
 use Rattle.zonemap.proofs.Bytes.{map-length}
-use Rattle.tree.specs.Solid.{leafOf}
-use Rattle.building.specs.Build.{builtMap}
+use Rattle.tree.specs.Solid.{solidState, leafBy, leafOf}
+use Rattle.building.specs.Build.{mapBy, builtMap, buildWith}
 use Rattle.building.proofs.Answers.{Made}
-use Rattle.roundtrip.proofs.Built.{all, built-opens, built-root, built-leaves, leaf-is}
-use Rattle.zone.specs.Replies.{ZoneOutcome}
-use Rattle.demands.specs.Terms.{Built, Opens, CanLookUp}
+use Rattle.roundtrip.proofs.Named.{solid-good}
+use Rattle.roundtrip.proofs.Built.{allLeaves, tree-root, tree-leaves, tree-opens, tree-leaf}
+use Rattle.zone.specs.Replies.{ZoneOutcome, outcomeByNumber, zoneBuildOf}
+use Rattle.demands.specs.Terms.{BuiltBy, Built, Opens, CanLookUp}
 use Rattle.demands.specs.Demands.{TheMap}
 use Rattle.demands.proofs.Sheets.{check-good}
 use Rattle.demands.proofs.Opening.{opens-told, any-opens, opens as zone-opens}
@@ -38,63 +41,70 @@ module _ (n : ℕ) (map before after : List ℕ) (size : n ≡ length map) (byte
   later-stay : drop n after ≡ drop n before
   later-stay = rw (bytes, size) (drop-append-seam map (drop (length map) before))
 
+-- ---- a map that was built by any rule for the state of a cube that names no faces but the sheet's
+module _ (over : List Record → Cube → State) (good : (rs : List Record) (level : ℕ) (q : Cube) → faceGood (hasFace rs) (leafBy level (over rs q)) ≡ true) where
+  -- what building by it returns
+  abbrev pub buildBy : List ℕ → Root → List ℕ → ZoneOutcome
+  buildBy sheet root before = outcomeByNumber (buildWith (λ rs. mapBy (over rs)) sheet root before)
+
+  module _ (sheet map : List ℕ) (b : BuiltBy buildBy sheet map) where
+    abbrev rs : List Record
+    rs = recordsOf sheet
+
+    abbrev root : Root
+    root = b .root
+
+    -- the sheet is good, and the buffer begins with its map
+    pub told : ((n : ℕ) × (checkOf sheet ≡ Done n)) × Made (b .size) (b .before) (b .after) rs root (mapBy (over rs) root)
+    told =
+        let e = b .returned in
+        let t = made (λ rs. mapBy (over rs)) sheet root (b .before) (sym (ap (λ (o : ZoneOutcome). o .reply .code) e)) in
+        (t .0, rw (← ap (λ (o : ZoneOutcome). o .reply .number) e, ← ap (λ (o : ZoneOutcome). o .buffer) e) at (t .1))
+
+    within : inLimits root ≡ true
+    within = told .1 .within
+
+    -- the map that the rules name
+    pub is : map ≡ mapBy (over rs) root
+    is = b .bytes ∙ first-bytes (b .size) (mapBy (over rs) root) (b .before) (b .after) (told .1 .size) (told .1 .bytes)
+
+    pub root-is : rootOf map ≡ root
+    root-is = ap rootOf is ∙ tree-root (over rs) root within
+
+    pub leaves-are : leavesOf map ≡ allLeaves (over rs) root
+    leaves-are = ap leavesOf is ∙ tree-leaves (over rs) root
+
+    -- it opens with the faces of the sheet
+    pub opens-with : Opens (hasFace rs) map
+    opens-with = opens-told (hasFace rs) map (ap (faultOf (hasFace rs)) is ∙ tree-opens (hasFace rs) (over rs) (good rs) root within)
+
+    -- each leaf is that of the cube at its own place
+    pub leaf-there : (i : ℕ) → i < length (leavesOf map) → nthLeaf map i ≡ leafOf (over rs) (nthCube map i)
+    leaf-there i h = rw (leaves-are, root-is) (tree-leaf (hasFace rs) (over rs) (good rs) root within i (rw leaves-are at h))
+
+-- ---- a map built from a sheet
 module _ (sheet map : List ℕ) (b : Built sheet map) where
-  abbrev rs : List Record
-  rs = recordsOf sheet
-
-  abbrev root : Root
-  root = b .root
-
-  -- the sheet is good, and the buffer begins with its map
-  told : ((n : ℕ) × (checkOf sheet ≡ Done n)) × Made (b .size) (b .before) (b .after) rs root
-  told =
-      let e = b .returned in
-      let t = made sheet root (b .before) (sym (ap (λ (o : ZoneOutcome). o .reply .code) e)) in
-      (t .0, rw (← ap (λ (o : ZoneOutcome). o .reply .number) e, ← ap (λ (o : ZoneOutcome). o .buffer) e) at (t .1))
-
-  abbrev known : Made (b .size) (b .before) (b .after) rs root
-  known = told .1
-
-  within : inLimits root ≡ true
-  within = known .within
-
-  -- the map that the rules name
-  is : map ≡ builtMap rs root
-  is = b .bytes ∙ first-bytes (b .size) (builtMap rs root) (b .before) (b .after) (known .size) (known .bytes)
-
-  root-is : rootOf map ≡ root
-  root-is = ap rootOf is ∙ built-root rs root within
-
-  leaves-are : leavesOf map ≡ all rs root within
-  leaves-are = ap leavesOf is ∙ built-leaves rs root within
-
-  -- it opens with the faces of the sheet
-  opens : faultOf (hasFace rs) map ≡ []
-  opens = ap (faultOf (hasFace rs)) is ∙ built-opens rs root within
-
-  pub opens-with : Opens (hasFace rs) map
-  opens-with = opens-told (hasFace rs) map opens
-
   -- a lookup in it is refused only if the position is not in the root
   pub can-look-up : (p : Point) → InRoot (rootOf map) p → CanLookUp sheet map p
-  can-look-up p inside = record {
-    good = check-good sheet (told .0 .0) (told .0 .1);
-    opens = opens-with;
-    bounded = rw root-is (none-keep rs (rootCube root) (known .none));
-    inside = inside;
-  }
-
-  -- each leaf is that of the cube at its own place
-  pub leaf-there : (i : ℕ) → i < length (leavesOf map) → nthLeaf map i ≡ leafOf rs (nthCube map i)
-  leaf-there i h = rw (leaves-are, root-is) (leaf-is rs root within i (rw leaves-are at h))
+  unfolding zoneBuildOf
+  can-look-up p inside =
+      let t = told solidState solid-good sheet map b in
+      record {
+        good = check-good sheet (t .0 .0) (t .0 .1);
+        opens = opens-with solidState solid-good sheet map b;
+        bounded = rw (root-is solidState solid-good sheet map b) (none-keep (recordsOf sheet) (rootCube (b .root)) (t .1 .none));
+        inside = inside;
+      }
 
   pub the-map : TheMap sheet map b
-  unfolding builtMap
-  the-map = record {
-    is = is;
-    root = root-is;
-    size = known .size ∙ map-length root (all rs root within) ∙ rw leaves-are;
-    later-stay = later-stay (b .size) (builtMap rs root) (b .before) (b .after) (known .size) (known .bytes);
-    opens = zone-opens map .done (any-opens (hasFace rs) map opens-with);
-    leaf = leaf-there;
-  }
+  unfolding zoneBuildOf mapBy
+  the-map =
+      let made = told solidState solid-good sheet map b .1 in
+      record {
+        is = is solidState solid-good sheet map b;
+        root = root-is solidState solid-good sheet map b;
+        size = made .size ∙ map-length (b .root) (allLeaves (solidState (recordsOf sheet)) (b .root)) ∙ rw (leaves-are solidState solid-good sheet map b);
+        later-stay = later-stay (b .size) (builtMap (recordsOf sheet) (b .root)) (b .before) (b .after) (made .size) (made .bytes);
+        opens = zone-opens map .done (any-opens (hasFace (recordsOf sheet)) map (opens-with solidState solid-good sheet map b));
+        leaf = leaf-there solidState solid-good sheet map b;
+      }

@@ -29,7 +29,7 @@ use Rattle.cube.proofs.Numbers.{within-limits, limits-within, out-of-limits}
 use Rattle.colour.specs.Entries.{firstPast}
 use Rattle.colour.proofs.FirstPast.{past-at}
 use Rattle.colour.proofs.Smaller.{none-keep, keep-none}
-use Rattle.building.specs.Build.{Outcome, outcome, builtMap, storedOf, overRootOf, buildOf}
+use Rattle.building.specs.Build.{Outcome, outcome, builtMap, storedOf, overRootWith, overRootOf, buildWith, buildOf}
 use Rattle.building.proofs.Answers.{Made, done-made}
 use Rattle.zone.specs.declared.ZoneReply.{ZoneReply}
 use Rattle.zone.specs.Replies.{reply, byNumber, zoneCheckOf, ZoneOutcome, zoneOutcome, outcomeByNumber, zoneBuildOf}
@@ -69,7 +69,7 @@ module _ (before : List ℕ) where
       (λ t. absurd (rw t at refused refl))
 
   solid-kept : (rs : List Record) (root : Root) → Kept (overRootOf rs root before)
-  unfolding overRootOf
+  unfolding overRootWith
   solid-kept rs root =
       by-test (inLimits root)
       (λ t. rw t
@@ -78,7 +78,7 @@ module _ (before : List ℕ) where
       (λ t. rw t (λ _. refl))
 
   pub unchanged : (sheet : List ℕ) (root : Root) → (zoneBuildOf sheet root before .reply .code ≡ 0 → ⊥) → zoneBuildOf sheet root before .buffer ≡ before
-  unfolding zoneBuildOf buildOf
+  unfolding zoneBuildOf buildWith
   unchanged sheet root = each-first Kept (λ why. outcome (Refused why) before) _ (refusalOf (checkOf sheet)) (λ why _. refl) (solid-kept (recordsOf sheet) root)
 
 -- ---- a sheet that is refused
@@ -87,29 +87,31 @@ bad-sheet (Done n) h before rest = absurd (h refl)
 bad-sheet (Refused why) h before rest = refl
 
 pub build-refused : (sheet : List ℕ) → (zoneCheckOf sheet .code ≡ 0 → ⊥) → (root : Root) (before : List ℕ) → zoneBuildOf sheet root before ≡ zoneOutcome (zoneCheckOf sheet) before
-unfolding zoneBuildOf buildOf zoneCheckOf
+unfolding zoneBuildOf buildWith zoneCheckOf
 build-refused sheet h root before = bad-sheet (checkOf sheet) h before (overRootOf (recordsOf sheet) root before)
 
 -- ---- code 0 exactly if no row refuses
--- code 0: the sheet is good, and its map is at the start of the buffer
-pub made : (sheet : List ℕ) (root : Root) (before : List ℕ) → zoneBuildOf sheet root before .reply .code ≡ 0
-    → ((n : ℕ) × (checkOf sheet ≡ Done n)) × Made (zoneBuildOf sheet root before .reply .number) before (zoneBuildOf sheet root before .buffer) (recordsOf sheet) root
-unfolding zoneBuildOf
-made sheet root before e =
-    let o : Outcome = buildOf sheet root before in
-    let t = done-made sheet root before (o .buffer) (byNumber (o .reply) .number) (ap (λ (r : Reply). outcome r (o .buffer)) (sym (done-code (o .reply) e))) in
-    (not-refused (checkOf sheet) (t .0), t .1)
+-- code 0: the sheet is good, and its map is at the start of the buffer, whatever rule gives the map
+module _ (mapOver : List Record → Root → List ℕ) (sheet : List ℕ) (root : Root) (before : List ℕ) where
+  abbrev done : Outcome
+  done = buildWith mapOver sheet root before
+
+  pub made : byNumber (done .reply) .code ≡ 0
+      → ((n : ℕ) × (checkOf sheet ≡ Done n)) × Made (byNumber (done .reply) .number) before (done .buffer) (recordsOf sheet) root (mapOver (recordsOf sheet) root)
+  made e =
+      let t = done-made mapOver sheet root before (done .buffer) (byNumber (done .reply) .number) (ap (λ (r : Reply). outcome r (done .buffer)) (sym (done-code (done .reply) e))) in
+      (not-refused (checkOf sheet) (t .0), t .1)
 
 module _ (sheet : List ℕ) (root : Root) (before : List ℕ) where
   abbrev rs : List Record
   rs = recordsOf sheet
 
   pub builds : DoneWhere (CanBuild sheet root before) (zoneBuildOf sheet root before .reply) (length (builtMap rs root))
-  unfolding zoneBuildOf buildOf overRootOf storedOf
+  unfolding zoneBuildOf buildWith overRootWith storedOf
   builds = record {
     done = λ f. rw (good-check sheet (f .good), limits-within root (f .limits), keep-none rs (rootCube root) (f .bounded), le-ltb (length before) (length (builtMap rs root)) (f .room));
     only = λ e.
-        let t = made sheet root before e in
+        let t = made builtMap sheet root before e in
         let m = t .1 in
         record {
           good = check-good sheet (t .0 .0) (t .0 .1);
@@ -120,7 +122,7 @@ module _ (sheet : List ℕ) (root : Root) (before : List ℕ) where
   }
 
   pub build-rows : (good : GoodSheet sheet) → BuildRows sheet good root before
-  unfolding zoneBuildOf buildOf overRootOf storedOf
+  unfolding zoneBuildOf buildWith overRootWith storedOf
   build-rows good = record {
     row-6 = λ out. rw (good-check sheet good, out-of-limits root out);
     row-7 = λ within. row-7 rs (rootCube root) _ (λ o past. rw (good-check sheet good, limits-within root within, past));

@@ -26,8 +26,8 @@ use Rattle.cube.specs.declared.Cube.{Cube}
 use Rattle.cube.specs.Limits.{inLimits}
 use Rattle.cube.specs.Cubes.{rootCube, childOf}
 use Rattle.colour.specs.Bounds.{across, boundsOf}
-use Rattle.colour.specs.States.{faceState, otherwiseOf, joinedBy, stateOf}
-use Rattle.colour.specs.Entries.{faceBounds, entryOf, entries, pastFrom, firstPast}
+use Rattle.colour.specs.States.{isSame, faceState, otherwiseOf, joinedBy, stateWith}
+use Rattle.colour.specs.Entries.{faceBounds, entryWith, entries, pastFrom, firstPast}
 use Rattle.colour.proofs.FirstPast.{past-cases}
 use Rattle.colour.proofs.Smaller.{bounds-inside, keep-smaller}
 use Rattle.zonemap.specs.Opening.{openOf}
@@ -36,7 +36,7 @@ use Rattle.tree.specs.Visit.{upto}
 use Rattle.tree.specs.Solid.{solidState, isGray}
 use Rattle.tree.proofs.Visits.{upto-nothing}
 use Rattle.tree.proofs.Cubes.{child-none}
-use Rattle.building.specs.Build.{overRootOf, buildOf}
+use Rattle.building.specs.Build.{overRootWith, buildWith, buildOf}
 use Rattle.lookup.specs.Lookup.{lookupOf, numbered}
 use Rattle.zone.specs.Replies.{byNumber, zoneCheckOf, zoneBuildOf, zoneOpenOf, zoneLookupOf}
 use Rattle.zone.proofs.ByNumber.{done-code}
@@ -50,7 +50,7 @@ none-in-tree : (rs : List Record) (left : ℕ) (q : Cube) → firstPast rs q ≡
 unfolding pastInTree
 none-in-tree rs zero q none = none
 none-in-tree rs (suc left) q none =
-    by-test (isGray rs q)
+    by-test (isGray (solidState rs) q)
     (λ t. rw (none, t, upto-nothing (λ k. pastInTree rs left (childOf q k)) (λ k. none-in-tree rs left (childOf q k) (child-none rs q none k)) 8))
     (λ t. rw (none, t))
 
@@ -58,7 +58,7 @@ none-in-tree rs (suc left) q none =
 -- over the children in the high half of x, with the high end, and c^4 passes it everywhere, with the low end too. The solid is the complement of the step room, so the root is gray.
 past-rows : pastInTree (stepRecords ++ Constant (pos (2 ^ 29 + 1)) ∷ Square 8 ∷ Product 9 0 ∷ Square 9 ∷ Complement 7 ∷ []) 1 (rootCube (stepRoot 1))
     ≡ over 10 High ∷ over 11 Low ∷ over 10 High ∷ over 11 Low ∷ over 10 High ∷ over 11 Low ∷ over 10 High ∷ over 11 Low ∷ over 10 High ∷ []
-unfolding pastInTree upto isGray solidState firstPast pastFrom pastEnd isSmall along onward entryOf faceBounds boundsOf stateOf across sum difference span product square lesserOf greaterOf faceState joinedBy otherwiseOf rootCube childOf
+unfolding pastInTree upto isGray solidState firstPast pastFrom pastEnd isSmall along onward entryWith faceBounds boundsOf stateWith across sum difference span product square lesserOf greaterOf faceState joinedBy otherwiseOf isSame rootCube childOf
 past-rows = refl
 
 -- ---- the same outcome
@@ -67,7 +67,7 @@ module _ (sheet : List ℕ) (root : Root) (before : List ℕ) where
   rs = recordsOf sheet
 
   pub same : zoneBuildOf sheet root before ≡ buildWithRow11 sheet root before
-  unfolding zoneBuildOf buildOf overRootOf zoneCheckOf buildWithRow11 firstPast
+  unfolding zoneBuildOf buildWith overRootWith zoneCheckOf buildWithRow11 firstPast
   same =
       by-test (eqb (zoneCheckOf sheet .code) 0)
       (λ good.

@@ -18,8 +18,8 @@ use Rattle.zonemap.proofs.Bytes.{map-length}
 use Rattle.zonemap.specs.StepRoom.{stepRoot, stepMap}
 use Rattle.colour.specs.States.{faceState}
 use Rattle.colour.proofs.Rows.{product-row, square-row, unrelated-row}
-use Rattle.tree.specs.Solid.{leavesBelow}
-use Rattle.building.specs.Build.{builtMap, storedOf, buildOf}
+use Rattle.tree.specs.Solid.{solidState, leavesBelow}
+use Rattle.building.specs.Build.{mapBy, builtMap, storedOf, buildOf}
 use Rattle.tree.proofs.Rows.{depth-2, one-face}
 use Rattle.building.proofs.Rows.{build-0, build-1, build-2}
 use Rattle.lookup.proofs.Rows.{by-face-5, inside-2-0-0, outside-3-0-0, undecided-2-2-0, not-in-root-4-0-0}
@@ -45,11 +45,11 @@ unfolding zoneLookupOf
 looks-up p r e = ap (λ (q : Reply). byNumber (numbered q)) e
 
 -- a map of one leaf, if building returns code 0
-module _ (sheet : List ℕ) (root : Root) (out : List ℕ) (e : zoneBuildOf sheet root out .reply .code ≡ 0) (l : Leaf) (one : leavesBelow (recordsOf sheet) (root .d) (rootCube root) ≡ l ∷ []) where
+module _ (sheet : List ℕ) (root : Root) (out : List ℕ) (e : zoneBuildOf sheet root out .reply .code ≡ 0) (l : Leaf) (one : leavesBelow (solidState (recordsOf sheet)) (root .d) (rootCube root) ≡ l ∷ []) where
   one-leaf : zoneBuildOf sheet root out ≡ zoneOutcome (reply 0 22) (mapOf root (l ∷ []) ++ drop 22 out)
-  unfolding builtMap
+  unfolding zoneBuildOf mapBy
   one-leaf =
-      let m = made sheet root out e .1 in
+      let m = made builtMap sheet root out e .1 in
       let is : builtMap (recordsOf sheet) root ≡ mapOf root (l ∷ []) = ap (mapOf root) one in
       let size : length (mapOf root (l ∷ [])) ≡ 22 = map-length root (l ∷ []) in
       let number : zoneBuildOf sheet root out .reply .number ≡ 22 = m .size ∙ ap length is ∙ size in
@@ -57,7 +57,7 @@ module _ (sheet : List ℕ) (root : Root) (out : List ℕ) (e : zoneBuildOf shee
       λ i. zoneOutcome (reply (e i) (number i)) (bytes i)
 
 pub rows : AllHold elevenRows
-unfolding AllHold leavesIn leafIn faceState builtMap
+unfolding AllHold leavesIn leafIn faceState mapBy
 rows = (
   λ out h. stores stepSheet (stepRoot 0) _ out 22 (build-0 out) (map-length (stepRoot 0) _) h,
   (
@@ -79,7 +79,7 @@ rows = (
                   (
                     λ f. (refl, refl),
                     (
-                      λ sheet rs a root out is s e. one-leaf sheet root out e _ (ap (λ (k : List Record). leavesBelow k (root .d) (rootCube root)) is ∙ one-face rs a root (length rs) s),
+                      λ sheet rs a root out is s e. one-leaf sheet root out e _ (ap (λ (k : List Record). leavesBelow (solidState k) (root .d) (rootCube root)) is ∙ one-face rs a root (length rs) s),
                       tt,
                     ),
                   ),

@@ -14,7 +14,7 @@ use Rattle.meaning.specs.Truth.{holdsAt, inSolid}
 use Rattle.colour.specs.declared.State.{State}
 use Rattle.colour.specs.States.{classOf, faceOf}
 use Rattle.colour.specs.Held.{stateBy}
-use Rattle.colour.proofs.Filling.{back-again}
+use Rattle.colour.proofs.Otherwise.{back-again}
 use Rattle.soundness.specs.Claims.{Sound}
 use Rattle.zonemap.specs.declared.Leaf.{Leaf}
 use Rattle.zonemap.specs.Opening.{leavesOf}

@@ -3,7 +3,7 @@
 use mathlib.Core.Path.{_≡_}
 use mathlib.Core.Bool.{Bool, cond, not}
 use mathlib.Core.List.{List}
-use Prim.Native.Nat.{ℕ, _+_, _*_, _<_}
+use Prim.Native.Nat.{ℕ, _+_, _*_, _≤_, _<_}
 use lib.ListN.{length, drop}
 use Rattle.interval.specs.Claims.{Inside}
 use Rattle.sheet.specs.declared.Record.{Record}
@@ -14,16 +14,20 @@ use Rattle.cube.specs.declared.Point.{Point}
 use Rattle.cube.specs.Points.{InRoot, CubeInside}
 use Rattle.meaning.specs.Fractions.{FractionalPoint, whole, InClosedRoot}
 use Rattle.meaning.specs.Truth.{holdsAt, inSolid}
+use Rattle.colour.specs.declared.State.{State}
+use Rattle.colour.specs.declared.State.the-variants.{Out, In, Single, Comp, Mixed}
+use Rattle.colour.specs.States.{bothOf, eitherOf}
 use Rattle.zonemap.specs.Opening.{rootOf, leavesOf, anyFace}
 use Rattle.zonemap.specs.Leaves.{nthLeaf, nthCube}
-use Rattle.tree.specs.Solid.{leafOf}
+use Rattle.tree.specs.Solid.{solidState, leafOf}
 use Rattle.building.specs.Build.{builtMap}
 use Rattle.zone.specs.declared.ZoneReply.{ZoneReply}
 use Rattle.zone.specs.Replies.{reply, zoneCheckOf, ZoneOutcome, zoneOutcome, zoneBuildOf, zoneOpenOf, zoneLookupOf}
-use Rattle.demands.specs.Terms.{ExactlyOne, DoneWhere, Never, Built, Holds, Touches, GoodSheet, Opens, boundsOver, KeepsLimit, CanBuild, CanLookUp, Truthful, NoTouch}
+use Rattle.demands.specs.Terms.{ExactlyOne, DoneWhere, Never, Built, Holds, Touches, GoodSheet, Opens, boundsOver, stateOver, KeepsLimit, CanBuild, CanLookUp, Truthful, NoTouch, OfFace}
 use Rattle.demands.specs.Table.{Table}
-use Rattle.demands.specs.Rows.{AllHold, elevenRows, limitRows}
+use Rattle.demands.specs.Rows.{AllHold, elevenRows, limitRows, mentionedTwice}
 use Rattle.demands.specs.Row11.{buildWithRow11}
+use Rattle.demands.specs.Before03.{stateBefore, zoneBuildBefore, BuiltBefore}
 
 -- 1. Every sheet, root cube, depth, map and position gets an answer. A bad one gets the refusal in document 01, in its stated order, without any check by the
 -- caller, and the map buffer is then unchanged.
@@ -52,7 +56,7 @@ pub record TheMap (sheet map : List ℕ) (built : Built sheet map) : Type 0 wher
   -- it opens with the root that was asked for, and each leaf is that of the cube at its own place
   pub opens : zoneOpenOf map ≡ reply 0 (length (leavesOf map))
   pub root : rootOf map ≡ built .root
-  pub leaf : (i : ℕ) → i < length (leavesOf map) → nthLeaf map i ≡ leafOf (recordsOf sheet) (nthCube map i)
+  pub leaf : (i : ℕ) → i < length (leavesOf map) → nthLeaf map i ≡ leafOf (solidState (recordsOf sheet)) (nthCube map i)
 
 -- A lookup answers by the leaf that holds the position, and by that leaf's one face where it names one. (White answers 0, black 1, gray 2. Terminal works
 -- out its face exactly at the point; class 3 turns the answer over.)
@@ -100,7 +104,24 @@ pub record Reply11 : Type 0 where
   pub never : (sheet map before : List ℕ) (root : Root) (p : Point)
       → Never 11 (zoneCheckOf sheet) × Never 11 (zoneBuildOf sheet root before .reply) × Never 11 (zoneOpenOf map) × Never 11 (zoneLookupOf sheet map p)
 
--- the three demands, the eleven rows marked P, that of the limit with both ends (request 2026-04), and what request 2026-11 asks for
+-- Request 2026-03: the same face mentioned twice. "Mend the rule:
+pub record SameFace : Type 0 where
+  -- both or either of Single(f) with Single(f) is Single(f), and likewise Comp(f);
+  pub twice : (f : ℕ) → (bothOf (Single f) (Single f) ≡ Single f) × (eitherOf (Single f) (Single f) ≡ Single f) × (bothOf (Comp f) (Comp f) ≡ Comp f) × (eitherOf (Comp f) (Comp f) ≡ Comp f)
+  -- both of Single(f) with Comp(f), in either order, is Out, and either of them is In.
+  pub opposite : (f : ℕ) → (bothOf (Single f) (Comp f) ≡ Out) × (bothOf (Comp f) (Single f) ≡ Out) × (eitherOf (Single f) (Comp f) ≡ In) × (eitherOf (Comp f) (Single f) ≡ In)
+  -- Different faces stay Mixed."
+  pub different : (f g : ℕ) → (f ≡ g → ⊥) → (s t : State) → OfFace f s → OfFace g t → (bothOf s t ≡ Mixed) × (eitherOf s t ≡ Mixed)
+  -- over any cube, a record whose state was not Mixed by the old rule has the same state now
+  pub same-state : (rs : List Record) (q : Cube) (i : ℕ) → (stateBefore rs q i ≡ Mixed → ⊥) → stateOver rs q i ≡ stateBefore rs q i
+  -- demand 3 holds of maps built before the change too; so an old and a new map of one sheet do not touch white to black either
+  pub truthful : (sheet map : List ℕ) → BuiltBefore sheet map → Truthful sheet map
+  pub no-touch : (sheet old new : List ℕ) → BuiltBefore sheet old → Built sheet new → NoTouch old new × NoTouch new old
+  -- where building had room for the map, it still has, and the map is not longer
+  pub no-longer : (sheet : List ℕ) (root : Root) (before : List ℕ) → zoneBuildBefore sheet root before .reply .code ≡ 0
+      → (zoneBuildOf sheet root before .reply .code ≡ 0) × (zoneBuildOf sheet root before .reply .number ≤ zoneBuildBefore sheet root before .reply .number)
+
+-- the three demands, the eleven rows marked P, that of the limit with both ends (request 2026-04), and what requests 2026-11 and 2026-03 ask for
 pub record Demands : Type 0 where
   pub first : Demand1
   pub second : Demand2
@@ -108,3 +129,5 @@ pub record Demands : Type 0 where
   pub rows : AllHold elevenRows
   pub limit-rows : AllHold limitRows
   pub reply-11 : Reply11
+  pub same-face : SameFace
+  pub mentioned-twice : AllHold mentionedTwice

@@ -15,7 +15,7 @@ use Rattle.cube.specs.Limits.{inLimits}
 use Rattle.cube.specs.Cubes.{rootCube, childOf}
 use Rattle.colour.specs.Entries.{firstPast}
 use Rattle.tree.specs.Visit.{upto}
-use Rattle.tree.specs.Solid.{isGray}
+use Rattle.tree.specs.Solid.{solidState, isGray}
 use Rattle.building.specs.Build.{builtMap, storedOf}
 use Rattle.zone.specs.Replies.{reply, zoneCheckOf, ZoneOutcome, zoneOutcome, outcomeByNumber}
 
@@ -23,7 +23,7 @@ use Rattle.zone.specs.Replies.{reply, zoneCheckOf, ZoneOutcome, zoneOutcome, ou
 -- did not refuse)
 unfoldable pub pastInTree : List Record → ℕ → Cube → List Over
 pastInTree rs zero q = firstPast rs q
-pastInTree rs (suc left) q = firstPast rs q ++ cond (isGray rs q) (upto (λ k. pastInTree rs left (childOf q k)) 8) []
+pastInTree rs (suc left) q = firstPast rs q ++ cond (isGray (solidState rs) q) (upto (λ k. pastInTree rs left (childOf q k)) 8) []
 
 -- zone_build by the table as it was, row by row: 1 to 5, 6, 7 and 11, and from 8 on as it is
 module _ (sheet : List ℕ) (root : Root) (before : List ℕ) where

@@ -1,12 +1,12 @@
--- Worked rows of document 01, as lists: the eleven that are marked P, and that of the limit with both ends.
+-- Worked rows, as lists: document 01's eleven that are marked P, its row of the limit with both ends, and rows of request 2026-03.
 use mathlib.Core.Path.{_≡_}
 use mathlib.Core.List.{List, [], _∷_, _++_}
-use Prim.Native.Nat.{ℕ, _+_, _^_, _≤_}
+use Prim.Native.Nat.{ℕ, _+_, _*_, _^_, _≤_}
 use lib.IntN.{ℤ, pos, negsuc}
 use lib.ListN.{length, drop}
 use Rattle.interval.specs.Rules.{from}
 use Rattle.sheet.specs.declared.Record.{Record}
-use Rattle.sheet.specs.declared.Record.the-variants.{Constant, X, Sum, Difference, Product, Square, Face}
+use Rattle.sheet.specs.declared.Record.the-variants.{Constant, X, Sum, Difference, Product, Square, Face, Both, Either, Complement}
 use Rattle.sheet.specs.Records.{recordsOf}
 use Rattle.sheet.specs.StepRoom.{stepSheet}
 use Rattle.cube.specs.declared.Root.{Root}
@@ -21,8 +21,9 @@ use Rattle.zonemap.specs.Opening.{leavesOf}
 use Rattle.zonemap.specs.StepRoom.{stepRoot, stepMap}
 use Rattle.tree.specs.Solid.{solidState}
 use Rattle.lookup.specs.Lookup.{leafHolding}
-use Rattle.zone.specs.Replies.{reply, zoneOutcome, zoneBuildOf, zoneLookupOf}
+use Rattle.zone.specs.Replies.{reply, ZoneOutcome, zoneOutcome, zoneBuildOf, zoneLookupOf}
 use Rattle.demands.specs.Terms.{GoodSheet, boundsOver}
+use Rattle.demands.specs.Before03.{zoneBuildBefore}
 
 -- one claim for a list of statements: all of them hold
 unfoldable pub AllHold : List (Type 0) → Type 0
@@ -107,4 +108,30 @@ limitRows =
     ∷ Refuses7 (negsuc 1048575) (cubed ++ Sum 2 0 ∷ Face 3 ∷ []) 6
     -- a square that is above 2^60 all over the root: its low end lies outside
     ∷ Refuses7 (pos 0) (Constant (pos (2 ^ 30 + 1)) ∷ Square 0 ∷ Face 1 ∷ []) 2
+    ∷ []
+
+-- for any sheet with these records, over the root of the step room at depth d, into any buffer that has room: `build` gives code 0, and a map with these leaves
+abbrev Gives : (List ℕ → Root → List ℕ → ZoneOutcome) → List Record → ℕ → List Leaf → Type 0
+Gives build rs d leaves = (sheet out : List ℕ) → GoodSheet sheet → recordsOf sheet ≡ rs → 19 + 3 * length leaves ≤ length out
+    → build sheet (stepRoot d) out ≡ zoneOutcome (reply 0 (19 + 3 * length leaves)) (mapOf (stepRoot d) leaves ++ drop (19 + 3 * length leaves) out)
+
+-- x is at most 2: record 3 is that face
+abbrev wall : List Record
+wall = X ∷ Constant (pos 2) ∷ Difference 0 1 ∷ Face 2 ∷ []
+
+-- each black cube with x from 0 to 2, and each gray one with x from 2 to 4
+abbrev blackThenGray : List Leaf
+blackThenGray = leaf 1 1 0 ∷ leaf 1 4 0 ∷ leaf 1 1 0 ∷ leaf 1 4 0 ∷ []
+
+abbrev pub mentionedTwice : List (Type 0)
+mentionedTwice =
+    -- both of a face with itself is that face: one leaf, which is not split
+    Gives zoneBuildOf (wall ++ Both 3 3 ∷ []) 1 (leaf 0 2 3 ∷ [])
+    -- before request 2026-03 it was split, and the panel asked the guest in half of the root
+    ∷ Gives zoneBuildBefore (wall ++ Both 3 3 ∷ []) 1 (blackThenGray ++ blackThenGray)
+    -- both of a face with its complement holds nowhere, and either of them everywhere
+    ∷ Gives zoneBuildOf (wall ++ Complement 3 ∷ Both 4 3 ∷ []) 1 (leaf 0 0 0 ∷ [])
+    ∷ Gives zoneBuildOf (wall ++ Complement 3 ∷ Either 3 4 ∷ []) 1 (leaf 0 1 0 ∷ [])
+    -- two kind 16 records over one operand are two faces
+    ∷ Gives zoneBuildOf (wall ++ Face 2 ∷ Both 3 4 ∷ []) 1 (blackThenGray ++ blackThenGray)
     ∷ []

@@ -2,6 +2,7 @@
 -- replies refuses, and a map that is truthful to a sheet.
 use mathlib.Core.Path.{_≡_}
 use mathlib.Core.Bool.{Bool, true, false, not}
+use mathlib.Core.Logic.{_⊎_}
 use mathlib.Core.List.{List}
 use Prim.Native.Nat.{ℕ, _+_, _-_, _*_, _%_, _^_, _≤_, _<_}
 use lib.ListN.{length, getD, take}
@@ -22,13 +23,15 @@ use Rattle.cube.specs.Cubes.{rootCube}
 use Rattle.cube.specs.Points.{holdsPoint, InRoot}
 use Rattle.meaning.specs.Fractions.{FractionalPoint, InClosed}
 use Rattle.meaning.specs.Truth.{holdsAt, inSolid}
+use Rattle.colour.specs.declared.State.{State}
+use Rattle.colour.specs.declared.State.the-variants.{Single, Comp}
 use Rattle.colour.specs.Entries.{blank, entries}
 use Rattle.zonemap.specs.declared.Leaf.{Leaf}
 use Rattle.zonemap.specs.Opening.{rootOf, leavesOf}
 use Rattle.zonemap.specs.Leaves.{nthLeaf, nthPlace, nthCube}
 use Rattle.building.specs.Build.{builtMap}
 use Rattle.zone.specs.declared.ZoneReply.{ZoneReply}
-use Rattle.zone.specs.Replies.{reply, zoneOutcome, zoneBuildOf}
+use Rattle.zone.specs.Replies.{reply, ZoneOutcome, zoneOutcome, zoneBuildOf}
 
 -- one fits, and no other does
 pub record ExactlyOne {A : Type 0} (Fits : A → Type 0) : Type 0 where
@@ -45,14 +48,19 @@ pub record DoneWhere (Fine : Type 0) (r : ZoneReply) (number : ℕ) : Type 0 whe
 abbrev pub Never : ℕ → ZoneReply → Type 0
 Never code r = r .code ≡ code → ⊥
 
--- a map built from a sheet: for some root and some buffer zone_build returned code 0 with a size, and the map is the buffer's first `size` bytes afterwards
-pub record Built (sheet map : List ℕ) : Type 0 where
+-- a map that a call made from a sheet, where `build` gives its outcome: for some root and some buffer the call returned code 0 with a size, and the map is the
+-- buffer's first `size` bytes afterwards
+pub record BuiltBy (build : List ℕ → Root → List ℕ → ZoneOutcome) (sheet map : List ℕ) : Type 0 where
   pub root : Root
   pub before : List ℕ
   pub after : List ℕ
   pub size : ℕ
-  pub returned : zoneOutcome (reply 0 size) after ≡ zoneBuildOf sheet root before
+  pub returned : zoneOutcome (reply 0 size) after ≡ build sheet root before
   pub bytes : map ≡ take size after
+
+-- a map built from a sheet
+abbrev pub Built : List ℕ → List ℕ → Type 0
+Built = BuiltBy zoneBuildOf
 
 -- ---- leaf i of a map
 -- a whole point is in leaf i, high planes left out
@@ -105,6 +113,10 @@ pub record Opens (named : ℕ → Bool) (map : List ℕ) : Type 0 where
 abbrev pub boundsOver : List Record → Cube → ℕ → Interval
 boundsOver rs q i = getD (entries q rs) i blank .bounds
 
+-- and its state
+abbrev pub stateOver : List Record → Cube → ℕ → State
+stateOver rs q i = getD (entries q rs) i blank .state
+
 -- row 7: the bounds of each record before record n over a cube lie in -2^60 to 2^60
 abbrev pub KeepsBefore : List Record → Cube → ℕ → Type 0
 KeepsBefore rs q n = (i : ℕ) → i < n → SmallEnds (boundsOver rs q i)
@@ -144,3 +156,8 @@ pub record Truthful (sheet map : List ℕ) : Type 0 where
 -- no white leaf of one map shares even a corner with a black leaf of the other
 abbrev pub NoTouch : List ℕ → List ℕ → Type 0
 NoTouch one other = (p : FractionalPoint) (i j : ℕ) → nthLeaf one i .class ≡ 0 → nthLeaf other j .class ≡ 1 → Touches one p i → Touches other p j → ⊥
+
+-- ---- request 2026-03
+-- a state that names face f
+abbrev pub OfFace : ℕ → State → Type 0
+OfFace f s = (s ≡ Single f) ⊎ (s ≡ Comp f)

@@ -22,8 +22,8 @@ module _ (s : List ℕ) (r : Root) (out after : List ℕ) (reply : Reply) (n : �
   abbrev map : List ℕ
   map = builtMap (recordsOf s) r
 
-  made : Made n out after (recordsOf s) r
-  made = rw (same-root (r .x) (r .y) (r .z) x y z (r .k) (r .d)) at (done-made s (passedRoot (r .x) (r .y) (r .z) (r .k) (r .d)) out after n (ap (λ (q : Reply). outcome q after) (sym t) ∙ e) .1)
+  made : Made n out after (recordsOf s) r map
+  made = rw (same-root (r .x) (r .y) (r .z) x y z (r .k) (r .d)) at (done-made builtMap s (passedRoot (r .x) (r .y) (r .z) (r .k) (r .d)) out after n (ap (λ (q : Reply). outcome q after) (sym t) ∙ e) .1)
 
   pub made-room : n ≤ length after
   made-room = omega (arith, made .size, ap length (made .bytes), length-append map (drop (length map) out))

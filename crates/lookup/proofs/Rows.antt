@@ -19,8 +19,8 @@ use Rattle.cube.specs.Points.{axisHolds, holdsPoint, pointCube, placeBy, placeO
 use Rattle.zonemap.specs.Opening.{lengthGood, rootOf, leafIn, leavesIn, levelGood, faceGood, placeGood, leafGood, leavesFault, headerFault, faultOf, leafAt}
 use Rattle.zonemap.specs.StepRoom.{stepMap}
 use Rattle.colour.specs.Bounds.{across, boundsOf}
-use Rattle.colour.specs.States.{faceState, otherwiseOf, joinedBy, stateOf}
-use Rattle.colour.specs.Entries.{faceBounds, entryOf, pastFrom, firstPast}
+use Rattle.colour.specs.States.{faceState, otherwiseOf, joinedBy, stateWith}
+use Rattle.colour.specs.Entries.{faceBounds, entryWith, pastFrom, firstPast}
 use Rattle.pair.specs.Pairs.{pairRefusal}
 use Rattle.lookup.specs.declared.Answer.the-variants.{Outside, Inside, Undecided}
 use Rattle.lookup.specs.declared.Reply.the-variants.{Done, Refused}
@@ -37,7 +37,7 @@ opens = refl
 
 -- no record passes the limit over its root
 none : firstPast stepRecords (rootCube (rootOf stepMap)) ≡ []
-unfolding firstPast pastFrom along onward entryOf faceBounds boundsOf across difference pastEnd isSmall stateOf faceState joinedBy otherwiseOf rootCube rootOf unsignedAt signed32
+unfolding firstPast pastFrom along onward entryWith faceBounds boundsOf across difference pastEnd isSmall stateWith faceState joinedBy otherwiseOf rootCube rootOf unsignedAt signed32
 none = refl
 
 -- so a point is outside the root, or its leaf decides
@@ -51,11 +51,11 @@ unfolding leafHolding rootOf leafIn leavesIn leafAt placeOf placeBy unsignedAt s
 by-face-5 = refl
 
 pub inside-2-0-0 : lookupOf stepSheet stepMap (at 2 0) ≡ Done Inside
-unfolding rootOf leafIn leavesIn leafAt placeOf placeBy unsignedAt signed32 leafHolding rootCube holdsPoint axisHolds answerOf faceHolds pointCube along onward entryOf faceBounds boundsOf across difference stateOf faceState joinedBy otherwiseOf
+unfolding rootOf leafIn leavesIn leafAt placeOf placeBy unsignedAt signed32 leafHolding rootCube holdsPoint axisHolds answerOf faceHolds pointCube along onward entryWith faceBounds boundsOf across difference stateWith faceState joinedBy otherwiseOf
 inside-2-0-0 = step-lookup (at 2 0)
 
 pub outside-3-0-0 : lookupOf stepSheet stepMap (at 3 0) ≡ Done Outside
-unfolding rootOf leafIn leavesIn leafAt placeOf placeBy unsignedAt signed32 leafHolding rootCube holdsPoint axisHolds answerOf faceHolds pointCube along onward entryOf faceBounds boundsOf across difference stateOf faceState joinedBy otherwiseOf
+unfolding rootOf leafIn leavesIn leafAt placeOf placeBy unsignedAt signed32 leafHolding rootCube holdsPoint axisHolds answerOf faceHolds pointCube along onward entryWith faceBounds boundsOf across difference stateWith faceState joinedBy otherwiseOf
 outside-3-0-0 = step-lookup (at 3 0)
 
 pub undecided-2-2-0 : lookupOf stepSheet stepMap (at 2 2) ≡ Done Undecided

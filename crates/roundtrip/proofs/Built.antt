@@ -20,7 +20,7 @@ use Rattle.cube.proofs.Limits.{limits-sizes}
 use Rattle.cube.proofs.Corners.{times-eight}
 use Rattle.cube.proofs.Cubes.{child-cube, root-cube}
 use Rattle.zonemap.specs.declared.Leaf.{Leaf}
-use Rattle.zonemap.specs.Opening.{rootOf, levelGood, placeGood, leafGood, faultOf, leavesOf}
+use Rattle.zonemap.specs.Opening.{rootOf, levelGood, faceGood, placeGood, leafGood, faultOf, leavesOf}
 use Rattle.zonemap.specs.Leaves.{placeAt, nowhere}
 use Rattle.zonemap.proofs.Runs.{Run, Fine, run-append, run-map, run-at}
 use Rattle.zonemap.proofs.Trip.{leaves-back, root-back, map-opens}
@@ -29,7 +29,7 @@ use Rattle.colour.specs.declared.State.the-variants.{Out, In, Single, Comp, Mix
 use Rattle.colour.specs.States.{classOf}
 use Rattle.tree.specs.Visit.{upto}
 use Rattle.tree.specs.Solid.{solidState, isGray, leafBy, leafOf, leavesBelow}
-use Rattle.building.specs.Build.{builtMap}
+use Rattle.building.specs.Build.{mapBy, builtMap}
 use Rattle.tree.proofs.Cubes.{kidLeaves, kid-leaves, leaves-split, leaves-end, leaves-flat, leaves-few}
 use Rattle.roundtrip.proofs.Named.{solid-good}
 
@@ -61,58 +61,71 @@ last-level false level d e = refl
 not-gray : (b c : Bool) → b ≡ false → (not b || c) ≡ true
 not-gray b c e = rw e
 
-module _ (rs : List Record) (root : Root) (within : inLimits root ≡ true) where
+-- the leaves of a root
+abbrev pub allLeaves : (Cube → State) → Root → List Leaf
+allLeaves over root = leavesBelow over (root .d) (rootCube root)
+
+pub tree-root : (over : Cube → State) (root : Root) → inLimits root ≡ true → rootOf (mapBy over root) ≡ root
+unfolding mapBy
+tree-root over root within = root-back root (allLeaves over root) within
+
+pub tree-leaves : (over : Cube → State) (root : Root) → leavesOf (mapBy over root) ≡ allLeaves over root
+unfolding mapBy
+tree-leaves over root = leaves-back root (allLeaves over root)
+
+-- ---- the map of a root in its limits, given the state of each cube and which numbers a terminal leaf may name
+module _ (named : ℕ → Bool) (over : Cube → State) (good : (level : ℕ) (q : Cube) → faceGood named (leafBy level (over q)) ≡ true) (root : Root) (within : inLimits root ≡ true) where
   abbrev d : ℕ
   d = root .d
 
   -- what building writes for a place: a leaf that is good there, and is the leaf of the cube there
   abbrev pub BuiltAt : ℕ → Leaf → Type 0
-  BuiltAt p l = (leafGood (hasFace rs) d p l ≡ true) × (l ≡ leafOf rs (cubeAt root p (l .level)))
+  BuiltAt p l = (leafGood named d p l ≡ true) × (l ≡ leafOf over (cubeAt root p (l .level)))
 
   module _ (n level c : ℕ) (e : level + n ≡ d) (h : c * 8 ^ n + 8 ^ n ≤ 8 ^ d) where
     abbrev here : Cube
     here = cubeAt root (c * 8 ^ n) level
 
-    place-good : placeGood d (c * 8 ^ n) (leafOf rs here) ≡ true
+    place-good : placeGood d (c * 8 ^ n) (leafOf over here) ≡ true
     unfolding placeGood leafOf cubeAt
     place-good =
         let w : d - level ≡ n = omega arith in
         rw (w, eq-eqb (c * 8 ^ n % 8 ^ n) 0 (mul-mod-left c (8 ^ n)), le-leb (c * 8 ^ n + 8 ^ n) (8 ^ d) h)
 
-    single : (not (isGray rs here) || eqb level d) ≡ true → Run BuiltAt d (c * 8 ^ n) (leafOf rs here ∷ []) (c * 8 ^ n + 8 ^ n)
+    single : (not (isGray over here) || eqb level d) ≡ true → Run BuiltAt d (c * 8 ^ n) (leafOf over here ∷ []) (c * 8 ^ n + 8 ^ n)
     unfolding Run leafGood leafOf isGray cubeAt
     single g =
         let w : d - level ≡ n = omega arith in
         let v : c * 8 ^ n + 8 ^ (d - level) ≡ c * 8 ^ n + 8 ^ n = ap (λ (k : ℕ). c * 8 ^ n + 8 ^ k) w in
-        ((rw (level-good d level (solidState rs here) (omega arith) g, solid-good rs level here, place-good), refl), v)
+        ((rw (level-good d level (over here) (omega arith) g, good level here, place-good), refl), v)
 
   -- child k of the cube at a place
   part : (c n k : ℕ) → (c * 8 + k) * 8 ^ n ≡ c * 8 ^ suc n + k * 8 ^ n
   part c n k = omega (arith, times-eight c n)
 
-  leaves-run : (n level c : ℕ) → level + n ≡ d → c * 8 ^ n + 8 ^ n ≤ 8 ^ d → Run BuiltAt d (c * 8 ^ n) (leavesBelow rs n (cubeAt root (c * 8 ^ n) level)) (c * 8 ^ n + 8 ^ n)
-  leaves-run zero level c e h = rw (leaves-end rs 0 _ refl) (single zero level c e h (last-level (isGray rs (cubeAt root (c * 8 ^ 0) level)) level d (omega arith)))
+  leaves-run : (n level c : ℕ) → level + n ≡ d → c * 8 ^ n + 8 ^ n ≤ 8 ^ d → Run BuiltAt d (c * 8 ^ n) (leavesBelow over n (cubeAt root (c * 8 ^ n) level)) (c * 8 ^ n + 8 ^ n)
+  leaves-run zero level c e h = rw (leaves-end over 0 _ refl) (single zero level c e h (last-level (isGray over (cubeAt root (c * 8 ^ 0) level)) level d (omega arith)))
   leaves-run (suc n) level c e h =
       let q : Cube = cubeAt root (c * 8 ^ suc n) level in
-      by-test (isGray rs q)
+      by-test (isGray over q)
       (λ t.
       let z : c * 8 ^ suc n + 8 ^ suc n ≡ c * 8 ^ suc n + 8 * 8 ^ n = omega arith in
-      rw (leaves-split rs (suc n) q (omega arith) t, z)
-      (run-upto BuiltAt d (c * 8 ^ suc n) (8 ^ n) 8 (kidLeaves rs (suc n) q)
+      rw (leaves-split over (suc n) q (omega arith) t, z)
+      (run-upto BuiltAt d (c * 8 ^ suc n) (8 ^ n) 8 (kidLeaves over (suc n) q)
       (λ k l.
       let m : suc n - 1 ≡ n = omega arith in
-      let kid : kidLeaves rs (suc n) q k ≡ leavesBelow rs n (cubeAt root ((c * 8 + k) * 8 ^ n) (level + 1)) =
-      kid-leaves rs (suc n) q k ∙ ap (λ (i : ℕ). leavesBelow rs i (childOf q k)) m ∙ ap (leavesBelow rs n) (child-cube root (limits-sizes root within .2) n level c k e l ∙ ap (λ (i : ℕ). cubeAt root i (level + 1)) (sym (part c n k))) in
+      let kid : kidLeaves over (suc n) q k ≡ leavesBelow over n (cubeAt root ((c * 8 + k) * 8 ^ n) (level + 1)) =
+      kid-leaves over (suc n) q k ∙ ap (λ (i : ℕ). leavesBelow over i (childOf q k)) m ∙ ap (leavesBelow over n) (child-cube root (limits-sizes root within .2) n level c k e l ∙ ap (λ (i : ℕ). cubeAt root i (level + 1)) (sym (part c n k))) in
       rw (kid, ← part c n k)
       (leaves-run n (level + 1) (c * 8 + k) (omega arith)
       (let b : k ≤ 7 = omega arith in omega (arith, part c n k, mul-le-mul-right (8 ^ n) b))))))
-      (λ t. rw (leaves-flat rs (suc n) q t) (single (suc n) level c e h (not-gray (isGray rs q) (eqb level d) t)))
+      (λ t. rw (leaves-flat over (suc n) q t) (single (suc n) level c e h (not-gray (isGray over q) (eqb level d) t)))
 
   -- the leaves of the root
-  abbrev pub all : List Leaf
-  all = leavesBelow rs d (rootCube root)
+  abbrev all : List Leaf
+  all = allLeaves over root
 
-  pub root-run : Run BuiltAt d 0 all (8 ^ d)
+  root-run : Run BuiltAt d 0 all (8 ^ d)
   root-run =
       let r = leaves-run d 0 0 (omega arith) (omega arith) in
       let z : 0 * 8 ^ d ≡ 0 = omega arith in
@@ -120,23 +133,23 @@ module _ (rs : List Record) (root : Root) (within : inLimits root ≡ true) wher
       rw (z, y, root-cube root) at r
 
   all-few : length all ≤ 2 ^ 30
-  all-few = leaves-few rs d (rootCube root) (limits-sizes root within .1)
+  all-few = leaves-few over d (rootCube root) (limits-sizes root within .1)
 
-  -- THE ROUND TRIP: a built map opens, and has the root and the leaves that it was built from
-  pub built-opens : faultOf (hasFace rs) (builtMap rs root) ≡ []
-  unfolding builtMap
-  built-opens = map-opens (hasFace rs) root all within all-few (run-map BuiltAt d (Fine (hasFace rs) d) (λ p l t. t .0) 0 (8 ^ d) all root-run)
-
-  pub built-root : rootOf (builtMap rs root) ≡ root
-  unfolding builtMap
-  built-root = root-back root all within
-
-  pub built-leaves : leavesOf (builtMap rs root) ≡ all
-  unfolding builtMap
-  built-leaves = leaves-back root all
+  -- THE ROUND TRIP: the map opens (and it has that root and those leaves, as above)
+  pub tree-opens : faultOf named (mapBy over root) ≡ []
+  unfolding mapBy
+  tree-opens = map-opens named root all within all-few (run-map BuiltAt d (Fine named d) (λ p l t. t .0) 0 (8 ^ d) all root-run)
 
   -- each leaf is that of the cube at its own place
-  pub leaf-is : (i : ℕ) → i < length all → getD all i nowhere ≡ leafOf rs (cubeAt root (placeAt d i all) (getD all i nowhere .level))
-  leaf-is i h =
+  pub tree-leaf : (i : ℕ) → i < length all → getD all i nowhere ≡ leafOf over (cubeAt root (placeAt d i all) (getD all i nowhere .level))
+  tree-leaf i h =
       let z : 0 + placeAt d i all ≡ placeAt d i all = omega arith in
       rw z at (run-at BuiltAt d 0 (8 ^ d) i all root-run h .1)
+
+-- ---- the map built from a sheet
+module _ (rs : List Record) (root : Root) (within : inLimits root ≡ true) where
+  pub built-opens : faultOf (hasFace rs) (builtMap rs root) ≡ []
+  built-opens = tree-opens (hasFace rs) (solidState rs) (solid-good rs) root within
+
+  pub built-root : rootOf (builtMap rs root) ≡ root
+  built-root = tree-root (solidState rs) root within

@@ -17,8 +17,8 @@ use Rattle.cube.specs.declared.Cube.{Cube}
 use Rattle.zonemap.specs.Opening.{faceGood}
 use Rattle.colour.specs.declared.State.{State}
 use Rattle.colour.specs.declared.State.the-variants.{Out, In, Single, Comp, Mixed}
-use Rattle.colour.specs.States.{isIn, isOut, faceState, complementOf, otherwiseOf, joinedBy, stateOf}
-use Rattle.colour.specs.Entries.{Entry, blank, entryOf, entries}
+use Rattle.colour.specs.States.{isIn, isOut, isSame, faceState, complementOf, otherwiseOf, joinedBy, stateWith}
+use Rattle.colour.specs.Entries.{Entry, blank, entryWith, entryOf, entries}
 use Rattle.tree.specs.Solid.{solidState, leafBy}
 
 module _ (rs : List Record) where
@@ -46,22 +46,27 @@ module _ (rs : List Record) where
   complement-names (Comp f) h = h
   complement-names Mixed h = refl
 
-  -- two states where neither decides and neither leaves it to the other
-  otherwise-names : (decided s t : State) → names s ≡ true → names t ≡ true → names (otherwiseOf decided s t) ≡ true
-  unfolding otherwiseOf
-  otherwise-names decided s t hs ht = refl
-
   -- both and either
-  joined-names : (decides : State → Bool) (decided : State) (leaves : State → Bool) → names decided ≡ true → (s t : State) → names s ≡ true → names t ≡ true
-      → names (joinedBy decides decided leaves s t) ≡ true
-  unfolding joinedBy
-  joined-names decides decided leaves hd s t hs ht = by (decides s || decides t) (leaves s) (leaves t)
-    where
-      by : (a b c : Bool) → names (cond a decided (cond b t (cond c s (otherwiseOf decided s t)))) ≡ true
-      by true b c = hd
-      by false true c = ht
-      by false false true = hs
-      by false false false = otherwise-names decided s t hs ht
+  module _ (decided : State) (hd : names decided ≡ true) (s t : State) (hs : names s ≡ true) (ht : names t ≡ true) where
+    -- two states where neither decides and neither leaves it to the other
+    otherwise-names : names (otherwiseOf decided s t) ≡ true
+    unfolding otherwiseOf
+    otherwise-names = by (isSame s t) (isSame s (complementOf t))
+      where
+        by : (a b : Bool) → names (cond a s (cond b decided Mixed)) ≡ true
+        by true b = hs
+        by false true = hd
+        by false false = refl
+
+    joined-names : (decides leaves : State → Bool) → names (joinedBy otherwiseOf decides decided leaves s t) ≡ true
+    unfolding joinedBy
+    joined-names decides leaves = by (decides s || decides t) (leaves s) (leaves t)
+      where
+        by : (a b c : Bool) → names (cond a decided (cond b t (cond c s (otherwiseOf decided s t)))) ≡ true
+        by true b c = hd
+        by false true c = ht
+        by false false true = hs
+        by false false false = otherwise-names
 
   module _ (q : Cube) where
     abbrev itself : List Record → Record → Record
@@ -78,7 +83,7 @@ module _ (rs : List Record) where
 
     step-names : (before : List Record) (r : Record) (after : List Record) → before ++ r ∷ after ≡ rs
         → Pairs Names blank X (along (entryOf q) before) (along itself before) → names (entryOf q (along (entryOf q) before) r .state) ≡ true
-    unfolding entryOf stateOf
+    unfolding entryWith stateWith
     step-names before (Constant c) after e p = refl
     step-names before X after e p = refl
     step-names before Y after e p = refl
@@ -88,8 +93,8 @@ module _ (rs : List Record) where
     step-names before (Product a b) after e p = refl
     step-names before (Square a) after e p = refl
     step-names before (Face a) after e p = face-names _ _ (own before after a e)
-    step-names before (Both a b) after e p = joined-names isOut Out isIn refl _ _ (p .each a) (p .each b)
-    step-names before (Either a b) after e p = joined-names isIn In isOut refl _ _ (p .each a) (p .each b)
+    step-names before (Both a b) after e p = joined-names Out refl _ _ (p .each a) (p .each b) isOut isIn
+    step-names before (Either a b) after e p = joined-names In refl _ _ (p .each a) (p .each b) isIn isOut
     step-names before (Complement a) after e p = complement-names (getD (along (entryOf q) before) a blank .state) (p .each a)
 
     state-names : (i : ℕ) → names (getD (entries q rs) i blank .state) ≡ true

@@ -16,7 +16,7 @@ use Rattle.sheet.specs.declared.Record.the-variants.{Constant, X, Y, Z, Sum, Di
 use Rattle.sheet.proofs.Along.{Pairs, related}
 use Rattle.cube.specs.declared.Cube.{Cube}
 use Rattle.colour.specs.Bounds.{across, boundsOf}
-use Rattle.colour.specs.Entries.{Entry, blank, faceBounds, entryOf, entries}
+use Rattle.colour.specs.Entries.{Entry, blank, faceBounds, entryWith, entryOf, entries}
 use Rattle.meaning.specs.Fractions.{FractionalPoint, BetweenPlanes, InClosed}
 use Rattle.meaning.specs.Truth.{Value, over, raised, plus, minus, times, Meaning, absent, valueOf, meaningOf, meanings}
 use Rattle.soundness.specs.Claims.{HoldsValue}
@@ -59,7 +59,7 @@ module _ (q : Cube) (p : FractionalPoint) (h : InClosed q p) where
   Held e m = HoldsValue (p .n) (e .bounds) (m .value)
 
   step-holds : (es : List Entry) (ms : List Meaning) (r : Record) → Pairs Held blank absent es ms → Held (entryOf q es r) (meaningOf p ms r)
-  unfolding entryOf boundsOf meaningOf valueOf
+  unfolding entryWith boundsOf meaningOf valueOf
   step-holds es ms (Constant c) k = alone (p .n) c
   step-holds es ms X k = between (p .n) _ _ _ (h .x)
   step-holds es ms Y k = between (p .n) _ _ _ (h .y)

@@ -19,8 +19,8 @@ use Rattle.cube.specs.Cubes.{half}
 use Rattle.colour.specs.declared.State.{State}
 use Rattle.colour.specs.declared.State.the-variants.{Out, In, Single, Mixed}
 use Rattle.colour.specs.Bounds.{across, boundsOf}
-use Rattle.colour.specs.States.{isIn, isOut, faceState, stateOf}
-use Rattle.colour.specs.Entries.{blank, faceBounds, entryOf, entries}
+use Rattle.colour.specs.States.{isIn, isOut, faceState, stateWith}
+use Rattle.colour.specs.Entries.{blank, faceBounds, entryWith, entries}
 use Rattle.meaning.specs.Fractions.{FractionalPoint, BetweenPlanes, InClosed}
 use Rattle.meaning.specs.Truth.{valueOf, holdsOf, meaningOf, holdsAt, inSolid}
 use Rattle.soundness.specs.Claims.{Sound}
@@ -94,7 +94,7 @@ outAtZero : Interval → ℕ → State
 outAtZero i f = cond (leZ (i .high) (pos 0)) In (cond (leZ (pos 0) (i .low)) Out (Single f))
 
 called-out : Unsound wall (cube (pos 1) 2) (outAtZero (getD (entries (cube (pos 1) 2) wall) 2 blank .bounds) 3)
-unfolding outAtZero entryOf boundsOf stateOf across difference Sound inSolid holdsAt along onward meaningOf valueOf holdsOf
+unfolding outAtZero entryWith boundsOf stateWith across difference Sound inSolid holdsAt along onward meaningOf valueOf holdsOf
 called-out = record {
   point = at (pos 1) (pos 1) 0;
   closed = record { x = lies tt tt; y = lies tt tt; z = lies tt tt };
@@ -113,7 +113,7 @@ abbrev edgeState : ℕ → State
 edgeState n = getD (entries (cube (negsuc 0) 2) edge) n blank .state
 
 single-kept : Unsound edge (cube (negsuc 0) 2) (keptOf (edgeState 2) (edgeState 3))
-unfolding keptOf entryOf faceBounds boundsOf stateOf across faceState Sound inSolid holdsAt along onward meaningOf valueOf holdsOf
+unfolding keptOf entryWith faceBounds boundsOf stateWith across faceState Sound inSolid holdsAt along onward meaningOf valueOf holdsOf
 single-kept = record {
   point = at (pos 0) (pos 1) 0;
   closed = record { x = lies tt tt; y = lies tt tt; z = lies tt tt };

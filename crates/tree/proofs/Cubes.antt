@@ -2,12 +2,13 @@
 use mathlib.Core.Path.{_≡_, refl, sym, ap, _∙_}
 use mathlib.Core.Bool.{true, false, not}
 use mathlib.Core.List.{List, [], _∷_}
-use Prim.Native.Nat.{ℕ, _+_, _-_, _^_, _≤_, _<_}
+use Prim.Native.Nat.{ℕ, zero, suc, _+_, _-_, _^_, _≤_, _<_}
 use native.Mathlib.Nat.{zero-lt-suc, le-trans, pow-le-pow-right}
 use native.Mathlib.Omega.{arith}
 use borrow.Author.Tests.{not-true, not-false, eqb-true, eqb-false, ne-eqb}
 use lib.Dec.{eqb}
 use lib.ListN.{length, getD}
+use Rattle.integers.proofs.Order.{by-test}
 use Rattle.replies.specs.declared.Over.{Over}
 use Rattle.sheet.specs.declared.Record.{Record}
 use Rattle.cube.specs.declared.Cube.{Cube}
@@ -22,49 +23,82 @@ use Rattle.colour.specs.Entries.{blank, entries, judgedOf, firstPast}
 use Rattle.colour.specs.States.{classOf}
 use Rattle.colour.proofs.Told.{known-is, past-first}
 use Rattle.colour.proofs.Smaller.{none-smaller}
-use Rattle.tree.specs.Visit.{upto}
+use Rattle.tree.specs.Visit.{upto, visit}
 use Rattle.tree.specs.Solid.{solidState, isGray, leafOf, leavesBelow}
-use Rattle.tree.proofs.Visits.{kid, visit-end, visit-flat, visit-gray, visit-most}
+use Rattle.tree.proofs.Visits.{upto-length, upto-fewer, kid, visit-end, visit-flat, visit-gray, visit-most}
 
 -- a cube that is split
-pub record Split (rs : List Record) (left : ℕ) (q : Cube) : Type 0 where
+pub record Split (over : Cube → State) (left : ℕ) (q : Cube) : Type 0 where
   pub deep : 0 < left
-  pub gray : isGray rs q ≡ true
+  pub gray : isGray over q ≡ true
 
-module _ (rs : List Record) where
+module _ (over : Cube → State) where
   -- the leaves of child k
   abbrev pub kidLeaves : ℕ → Cube → ℕ → List Leaf
-  kidLeaves = kid (isGray rs) (λ q. leafOf rs q ∷ [])
+  kidLeaves = kid (isGray over) (λ q. leafOf over q ∷ [])
 
   module _ (left : ℕ) (q : Cube) where
-    pub kid-leaves : (k : ℕ) → kidLeaves left q k ≡ leavesBelow rs (left - 1) (childOf q k)
+    pub kid-leaves : (k : ℕ) → kidLeaves left q k ≡ leavesBelow over (left - 1) (childOf q k)
     unfolding leavesBelow
     kid-leaves k = refl
 
     -- a cube that is split
-    module _ (l : 0 < left) (g : isGray rs q ≡ true) where
-      pub leaves-split : leavesBelow rs left q ≡ upto (kidLeaves left q) 8
+    module _ (l : 0 < left) (g : isGray over q ≡ true) where
+      pub leaves-split : leavesBelow over left q ≡ upto (kidLeaves left q) 8
       unfolding leavesBelow
-      leaves-split = visit-gray (isGray rs) (λ q. leafOf rs q ∷ []) left q l g
+      leaves-split = visit-gray (isGray over) (λ q. leafOf over q ∷ []) left q l g
 
     -- a cube that is not split
-    pub leaves-end : left ≡ 0 → leavesBelow rs left q ≡ leafOf rs q ∷ []
+    pub leaves-end : left ≡ 0 → leavesBelow over left q ≡ leafOf over q ∷ []
     unfolding leavesBelow
-    leaves-end e = visit-end (isGray rs) (λ q. leafOf rs q ∷ []) left q e
+    leaves-end e = visit-end (isGray over) (λ q. leafOf over q ∷ []) left q e
 
-    pub leaves-flat : isGray rs q ≡ false → leavesBelow rs left q ≡ leafOf rs q ∷ []
+    pub leaves-flat : isGray over q ≡ false → leavesBelow over left q ≡ leafOf over q ∷ []
     unfolding leavesBelow
-    leaves-flat e = visit-flat (isGray rs) (λ q. leafOf rs q ∷ []) left q e
+    leaves-flat e = visit-flat (isGray over) (λ q. leafOf over q ∷ []) left q e
 
-    pub leaves-few : left ≤ 10 → length (leavesBelow rs left q) ≤ 2 ^ 30
+    pub leaves-few : left ≤ 10 → length (leavesBelow over left q) ≤ 2 ^ 30
     unfolding leavesBelow
-    leaves-few h = le-trans (visit-most (isGray rs) (λ q. leafOf rs q ∷ []) (λ q. refl) left q) (pow-le-pow-right (zero-lt-suc 7) h)
+    leaves-few h = le-trans (visit-most (isGray over) (λ q. leafOf over q ∷ []) (λ q. refl) left q) (pow-le-pow-right (zero-lt-suc 7) h)
 
-  -- ---- the limit
+  -- its class says whether it is split
+  module _ (q : Cube) (state : State) (is : state ≡ over q) (class : ℕ) (of : class ≡ classOf state) (left : ℕ) where
+    pub split-is : (left ≡ 0 → ⊥) → class ≡ 4 → Split over left q
+    unfolding isGray
+    split-is deep h = record { deep = omega arith; gray = rw (← is, ← of, h) }
+
+    pub split-else : (left ≡ 0 → ⊥) → not (eqb class 4) ≡ false → Split over left q
+    split-else deep h = split-is deep (eqb-true class 4 (not-false _ h))
+
+    pub flat-is : (class ≡ 4 → ⊥) → leavesBelow over left q ≡ leafOf over q ∷ []
+    unfolding isGray
+    flat-is h = leaves-flat left q (rw (← is, ← of) (ne-eqb class 4 h))
+
+    pub flat-else : not (eqb class 4) ≡ true → leavesBelow over left q ≡ leafOf over q ∷ []
+    flat-else h = flat-is (eqb-false class 4 (not-true _ h))
+
+-- ---- two trees, one of which has no gray cube that is not gray in the other: it has no more leaves
+leaves-some : (over : Cube → State) (left : ℕ) (q : Cube) → 1 ≤ length (leavesBelow over left q)
+unfolding leavesBelow visit
+leaves-some over zero q = omega arith
+leaves-some over (suc left) q =
+    let f : ℕ → List Leaf = λ k. visit (isGray over) (λ q. leafOf over q ∷ []) left (childOf q k) in
+    by-test (isGray over q) (λ t. rw t (omega (arith, upto-length f 7, leaves-some over left (childOf q 7)))) (λ t. rw t (omega arith))
+
+pub leaves-fewer : (one other : Cube → State) → ((q : Cube) → isGray one q ≡ true → isGray other q ≡ true) → (left : ℕ) (q : Cube)
+    → length (leavesBelow one left q) ≤ length (leavesBelow other left q)
+unfolding leavesBelow visit
+leaves-fewer one other gray zero q = omega arith
+leaves-fewer one other gray (suc left) q =
+    by-test (isGray one q) (λ t. rw (t, gray q t) (upto-fewer _ _ (λ k. leaves-fewer one other gray left (childOf q k)) 8)) (λ t. rw t (leaves-some other (suc left) q))
+
+-- ---- the solid of a sheet
+module _ (rs : List Record) where
+  -- the limit
   pub child-none : (q : Cube) → firstPast rs q ≡ [] → (k : ℕ) → firstPast rs (childOf q k) ≡ []
   child-none q none k = none-smaller (childOf q k) q (child-inside q k) rs none
 
-  -- ---- a cube that was judged, over which no record passes the limit
+  -- a cube that was judged, over which no record passes the limit
   module _ (q : Cube) (solid : ℕ) (last : solid + 1 ≡ length rs) (j : Judged) (e : j ≡ judgedOf rs q solid) where
     pub known-state : (state : State) → j ≡ Known state → state ≡ solidState rs q
     unfolding solidState
@@ -76,22 +110,6 @@ module _ (rs : List Record) where
     not-past none o k state =
         let z : [] ≡ o ∷ [] = sym none ∙ past-first rs q q refl solid j e o k in
         let y : _≡_ {A = ℕ} 0 1 = ap length z in absurd (omega arith)
-
-  -- its class says whether it is split
-  module _ (q : Cube) (state : State) (is : state ≡ solidState rs q) (class : ℕ) (of : class ≡ classOf state) (left : ℕ) where
-    pub split-is : (left ≡ 0 → ⊥) → class ≡ 4 → Split rs left q
-    unfolding isGray
-    split-is deep h = record { deep = omega arith; gray = rw (← is, ← of, h) }
-
-    pub split-else : (left ≡ 0 → ⊥) → not (eqb class 4) ≡ false → Split rs left q
-    split-else deep h = split-is deep (eqb-true class 4 (not-false _ h))
-
-    pub flat-is : (class ≡ 4 → ⊥) → leavesBelow rs left q ≡ leafOf rs q ∷ []
-    unfolding isGray
-    flat-is h = leaves-flat left q (rw (← is, ← of) (ne-eqb class 4 h))
-
-    pub flat-else : not (eqb class 4) ≡ true → leavesBelow rs left q ≡ leafOf rs q ∷ []
-    flat-else h = flat-is (eqb-false class 4 (not-true _ h))
 
 -- ---- what the recursion requires of the cube and of its children
 module _ (left : ℕ) (q : Cube) (near : Near left q) where

@@ -20,8 +20,8 @@ use Rattle.cube.specs.declared.Cube.{Cube}
 use Rattle.cube.specs.Cubes.{rootCube, childOf}
 use Rattle.colour.specs.Bounds.{across, boundsOf}
 use Rattle.colour.specs.declared.State.the-variants.{In, Out, Single}
-use Rattle.colour.specs.States.{faceState, otherwiseOf, joinedBy, stateOf}
-use Rattle.colour.specs.Entries.{Entry, blank, faceBounds, entryOf, entries}
+use Rattle.colour.specs.States.{isSame, faceState, otherwiseOf, joinedBy, stateWith}
+use Rattle.colour.specs.Entries.{Entry, blank, faceBounds, entryWith, entryOf, entries}
 use Rattle.zonemap.specs.declared.Leaf.{Leaf}
 use Rattle.zonemap.specs.StepRoom.{stepRoot}
 use Rattle.tree.specs.Visit.{upto, visit}
@@ -32,20 +32,20 @@ abbrev pub leaf : ℕ → ℕ → ℕ → Leaf
 leaf level class face = record { level = level; class = class; face = face }
 
 -- S at d 0: one leaf, level 0, gray
-pub depth-0 : leavesBelow stepRecords 0 (rootCube (stepRoot 0)) ≡ leaf 0 4 0 ∷ []
-unfolding leavesBelow visit isGray leafOf solidState along onward entryOf faceBounds boundsOf stateOf across sum difference faceState joinedBy otherwiseOf rootCube
+pub depth-0 : leavesBelow (solidState stepRecords) 0 (rootCube (stepRoot 0)) ≡ leaf 0 4 0 ∷ []
+unfolding leavesBelow visit isGray leafOf solidState along onward entryWith faceBounds boundsOf stateWith across sum difference faceState joinedBy otherwiseOf isSame rootCube
 depth-0 = refl
 
 -- S at d 1: 8 leaves
-pub depth-1 : leavesBelow stepRecords 1 (rootCube (stepRoot 1)) ≡ leaf 1 1 0 ∷ leaf 1 2 5 ∷ leaf 1 2 6 ∷ leaf 1 4 0 ∷ leaf 1 1 0 ∷ leaf 1 2 5 ∷ leaf 1 2 6 ∷ leaf 1 4 0 ∷ []
-unfolding leavesBelow visit upto isGray leafOf solidState along onward entryOf faceBounds boundsOf stateOf across sum difference faceState joinedBy otherwiseOf rootCube childOf
+pub depth-1 : leavesBelow (solidState stepRecords) 1 (rootCube (stepRoot 1)) ≡ leaf 1 1 0 ∷ leaf 1 2 5 ∷ leaf 1 2 6 ∷ leaf 1 4 0 ∷ leaf 1 1 0 ∷ leaf 1 2 5 ∷ leaf 1 2 6 ∷ leaf 1 4 0 ∷ []
+unfolding leavesBelow visit upto isGray leafOf solidState along onward entryWith faceBounds boundsOf stateWith across sum difference faceState joinedBy otherwiseOf isSame rootCube childOf
 depth-1 = refl
 
 -- S at d 2: 22 leaves; each gray cube becomes gray, white, white, white, twice
 pub depth-2 :
-    leavesBelow stepRecords 2 (rootCube (stepRoot 2))
+    leavesBelow (solidState stepRecords) 2 (rootCube (stepRoot 2))
     ≡ leaf 1 1 0 ∷ leaf 1 2 5 ∷ leaf 1 2 6 ∷ leaf 2 4 0 ∷ leaf 2 0 0 ∷ leaf 2 0 0 ∷ leaf 2 0 0 ∷ leaf 2 4 0 ∷ leaf 2 0 0 ∷ leaf 2 0 0 ∷ leaf 2 0 0 ∷ leaf 1 1 0 ∷ leaf 1 2 5 ∷ leaf 1 2 6 ∷ leaf 2 4 0 ∷ leaf 2 0 0 ∷ leaf 2 0 0 ∷ leaf 2 0 0 ∷ leaf 2 4 0 ∷ leaf 2 0 0 ∷ leaf 2 0 0 ∷ leaf 2 0 0 ∷ []
-unfolding leavesBelow visit upto isGray leafOf solidState along onward entryOf faceBounds boundsOf stateOf across sum difference faceState joinedBy otherwiseOf rootCube childOf
+unfolding leavesBelow visit upto isGray leafOf solidState along onward entryWith faceBounds boundsOf stateWith across sum difference faceState joinedBy otherwiseOf isSame rootCube childOf
 depth-2 = refl
 
 -- ---- a sheet whose last record is a face
@@ -55,7 +55,7 @@ module _ (rs : List Record) (a : ℕ) where
 
   -- the solid's state is the face's
   solid-face : (q : Cube) → solidState faced q ≡ faceState (faceBounds q (getD (entries q rs) a blank)) (length rs)
-  unfolding solidState entryOf stateOf
+  unfolding solidState entryWith stateWith
   solid-face q =
       let n : length faced - 1 ≡ length rs = omega (arith, length-append rs (Face a ∷ [])) in
       ap (λ (k : ℕ). getD (entries q faced) k blank .state) n
@@ -71,9 +71,9 @@ module _ (rs : List Record) (a : ℕ) where
       (λ u. let z : Single n ≡ Single f = rw (t, u) at e in cc))
 
   -- Single over the root, it gives one leaf at any depth: level 0, class 2, that face
-  pub one-face : (root : Root) (f : ℕ) → solidState faced (rootCube root) ≡ Single f → leavesBelow faced (root .d) (rootCube root) ≡ leaf 0 2 (length rs) ∷ []
+  pub one-face : (root : Root) (f : ℕ) → solidState faced (rootCube root) ≡ Single f → leavesBelow (solidState faced) (root .d) (rootCube root) ≡ leaf 0 2 (length rs) ∷ []
   unfolding isGray leafOf rootCube
   one-face root f s =
-      let g : isGray faced (rootCube root) ≡ false = rw s in
+      let g : isGray (solidState faced) (rootCube root) ≡ false = rw s in
       let k : f ≡ length rs = own-number _ _ f (sym (solid-face (rootCube root)) ∙ s) in
-      leaves-flat faced (root .d) (rootCube root) g ∙ rw (s, k)
+      leaves-flat (solidState faced) (root .d) (rootCube root) g ∙ rw (s, k)

@@ -38,6 +38,12 @@ module _ {A : Type 0} (f : ℕ → List A) where
   upto-bound b zero h = omega arith
   upto-bound b (suc n) h = omega (arith, length-append (upto f n) (f n), upto-bound b n h, h n)
 
+-- fewer elements, if each list has fewer
+pub upto-fewer : {A : Type 0} (f g : ℕ → List A) → ((k : ℕ) → length (f k) ≤ length (g k)) → (n : ℕ) → length (upto f n) ≤ length (upto g n)
+unfolding upto
+upto-fewer f g h zero = omega arith
+upto-fewer f g h (suc n) = omega (arith, length-append (upto f n) (f n), length-append (upto g n) (g n), upto-fewer f g h n, h n)
+
 -- nothing, if each list is empty
 pub upto-nothing : {A : Type 0} (f : ℕ → List A) → ((k : ℕ) → f k ≡ []) → (n : ℕ) → upto f n ≡ []
 unfolding upto

@@ -1,4 +1,4 @@
--- The solid of a sheet over a tree of cubes: its state over each, and the leaves.
+-- The solid's state over a cube, and the leaves of a tree of cubes, given the state of each.
 use Prim.Native.Nat.{ℕ, _-_}
 use mathlib.Core.Bool.{Bool}
 use mathlib.Core.List.{List, [], _∷_}
@@ -16,17 +16,19 @@ use Rattle.tree.specs.Visit.{visit}
 unfoldable pub solidState : List Record → Cube → State
 solidState rs q = getD (entries q rs) (length rs - 1) blank .state
 
--- gray is class 4
-unfoldable pub isGray : List Record → Cube → Bool
-isGray rs q = eqb (classOf (solidState rs q)) 4
-
 -- level, class and face number
 abbrev pub leafBy : ℕ → State → Leaf
 leafBy level state = record { level = level; class = classOf state; face = faceOf state }
 
-unfoldable pub leafOf : List Record → Cube → Leaf
-leafOf rs q = leafBy (q .level) (solidState rs q)
+-- ---- a tree of cubes, each of which has a state
+module _ (over : Cube → State) where
+  -- gray is class 4
+  unfoldable pub isGray : Cube → Bool
+  isGray q = eqb (classOf (over q)) 4
 
--- the leaves below a cube with n levels left
-unfoldable pub leavesBelow : List Record → ℕ → Cube → List Leaf
-leavesBelow rs = visit (isGray rs) (λ q. leafOf rs q ∷ [])
+  unfoldable pub leafOf : Cube → Leaf
+  leafOf q = leafBy (q .level) (over q)
+
+  -- the leaves below a cube with n levels left
+  unfoldable pub leavesBelow : ℕ → Cube → List Leaf
+  leavesBelow = visit isGray (λ q. leafOf q ∷ [])

@@ -31,7 +31,7 @@ pub fn solid_state(s: &[u8], offsets: &[u16], solid: u8, q: Cube) -> State
 // The number of leaves below a cube. At the last level a cube is one leaf, whatever its colour.
 pub fn count(s: &[u8], offsets: &[u16], solid: u8, q: Cube, left: u8) -> usize
     requires { ⌜ Offsets (now offsets) (now s) ⌝ ∗ ⌜ solid + 1 ≡ length (recordsOf (now s)) ⌝ ∗ ⌜ Near left q ⌝ ∗ ⌜ firstPast (recordsOf (now s)) q ≡ [] ⌝ }
-    ensures { λ r. ⌜ r ≡ length (leavesBelow (recordsOf (now (s .entry))) left q) ⌝ }
+    ensures { λ r. ⌜ r ≡ length (leavesBelow (solidState (recordsOf (now (s .entry)))) left q) ⌝ }
 {
     if left == 0 {
         return 1;
@@ -73,8 +73,8 @@ pub fn write(
     q: Cube,
     left: u8,
 ) -> usize
-    requires { ⌜ Offsets (now offsets) (now s) ⌝ ∗ ⌜ solid + 1 ≡ length (recordsOf (now s)) ⌝ ∗ ⌜ Near left q ⌝ ∗ ⌜ firstPast (recordsOf (now s)) q ≡ [] ⌝ ∗ ⌜ at + 3 * length (leavesBelow (recordsOf (now s)) left q) ≤ length (now out) ⌝ }
-    ensures { λ r. ⌜ (r ≡ at + 3 * length (leavesBelow (recordsOf (now (s .entry))) left q)) × (now (out .exit) ≡ sets (now (out .entry)) at (leavesBytes (leavesBelow (recordsOf (now (s .entry))) left q))) ⌝ }
+    requires { ⌜ Offsets (now offsets) (now s) ⌝ ∗ ⌜ solid + 1 ≡ length (recordsOf (now s)) ⌝ ∗ ⌜ Near left q ⌝ ∗ ⌜ firstPast (recordsOf (now s)) q ≡ [] ⌝ ∗ ⌜ at + 3 * length (leavesBelow (solidState (recordsOf (now s))) left q) ≤ length (now out) ⌝ }
+    ensures { λ r. ⌜ (r ≡ at + 3 * length (leavesBelow (solidState (recordsOf (now (s .entry)))) left q)) × (now (out .exit) ≡ sets (now (out .entry)) at (leavesBytes (leavesBelow (solidState (recordsOf (now (s .entry)))) left q))) ⌝ }
 {
     let state = solid_state(s, offsets, solid, q);
     let class = state.class();

@@ -28,6 +28,9 @@ is-out-requires-2 c κs = search needs
 returns-4 : tie.Need-returns-4
 returns-4 c = search (needs, second-leaves)
 
+otherwise-requires : tie.Need-otherwise-requires
+otherwise-requires c κs = search needs
+
 returns-5 : tie.Need-returns-5
 returns-5 c = search (needs, neither)
 
@@ -43,4 +46,5 @@ either-spec =
     returns-3
     is-out-requires-2
     returns-4
+    otherwise-requires
     returns-5)

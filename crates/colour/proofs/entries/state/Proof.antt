@@ -1,6 +1,6 @@
 -- `colour::entries::state` meets its contract: each kind has its own rule.
 use Rattle.colour.proofs.Arms.{face-arm, both-arm, either-arm, complement-arm}
-use Rattle.colour.specs.States.{stateOf}
+use Rattle.colour.specs.States.{stateWith}
 use borrow.Author.Needs.{needs}
 use Rattle.colour.proofs.entries.state.Statement.{statement}
 use Rattle.colour.proofs.entries.state.Tie as tie
@@ -72,35 +72,35 @@ complement-requires : tie.Need-complement-requires
 complement-requires c κs = search needs
 
 returns : tie.Need-returns
-unfolding stateOf
+unfolding stateWith
 returns c = rw (c .enum-told .given .1)
 
 returns-2 : tie.Need-returns-2
-unfolding stateOf
+unfolding stateWith
 returns-2 c = rw (c .enum-told2 .given .1)
 
 returns-3 : tie.Need-returns-3
-unfolding stateOf
+unfolding stateWith
 returns-3 c = rw (c .enum-told3 .given .1)
 
 returns-4 : tie.Need-returns-4
-unfolding stateOf
+unfolding stateWith
 returns-4 c = rw (c .enum-told4 .given .1)
 
 returns-5 : tie.Need-returns-5
-unfolding stateOf
+unfolding stateWith
 returns-5 c = rw (c .enum-told5 .given .1)
 
 returns-6 : tie.Need-returns-6
-unfolding stateOf
+unfolding stateWith
 returns-6 c = rw (c .enum-told6 .given .1)
 
 returns-7 : tie.Need-returns-7
-unfolding stateOf
+unfolding stateWith
 returns-7 c = rw (c .enum-told7 .given .1)
 
 returns-8 : tie.Need-returns-8
-unfolding stateOf
+unfolding stateWith
 returns-8 c = rw (c .enum-told8 .given .1)
 
 returns-9 : tie.Need-returns-9

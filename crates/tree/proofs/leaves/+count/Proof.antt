@@ -3,6 +3,7 @@ use borrow.Author.Needs.{needs}
 use native.Mathlib.Omega.{arith}
 use Prim.Native.Nat.{_-_}
 use Rattle.sheet.specs.Records.{recordsOf}
+use Rattle.tree.specs.Solid.{solidState}
 use Rattle.tree.proofs.Cubes.{split-is, flat-is, near-judged, near-split, near-child, none-child}
 use Rattle.tree.proofs.Counting.{Counting, one-end, one-flat, counting-start, counted-all, counting-fits, counting-next}
 use Prim.Native.Nat.{ℕ, _<_}
@@ -30,7 +31,7 @@ abbrev count-calls : ℕ → count-lts.Claims
 count-calls t = (solid-state-reads.Asked, solid-state-reads.Learnt, class-reads.Asked, class-reads.Learnt, child-reads.Asked, child-reads.Learnt, count-below t, count.Post)
 
 abbrev count-Inv-loop : count-lts.InvT-loop
-count-Inv-loop s offsets solid q left total₀ k₀ total k = Counting (recordsOf s) left q total k
+count-Inv-loop s offsets solid q left total₀ k₀ total k = Counting (solidState (recordsOf s)) left q total k
 
 abbrev count-μ-loop : count-lts.MeasureT-loop
 count-μ-loop s offsets solid q left total₀ k₀ total k = 8 - k

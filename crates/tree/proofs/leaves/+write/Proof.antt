@@ -5,6 +5,7 @@ use native.Mathlib.Omega.{arith}
 use Prim.Native.Nat.{_-_}
 use mathlib.Core.Logic.{⊎-elim}
 use Rattle.sheet.specs.Records.{recordsOf}
+use Rattle.tree.specs.Solid.{solidState}
 use Rattle.tree.proofs.Cubes.{split-else, flat-else, leaves-end, near-judged, near-split, near-child, none-child}
 use Rattle.tree.proofs.Stores.{leaf-room, leaf-after, leaf-put, Writing, writing-start, writing-length, writing-all, child-room, writing-next}
 use Prim.Native.Nat.{ℕ, _<_}
@@ -34,7 +35,7 @@ write-calls t = (solid-state-reads.Asked, solid-state-reads.Learnt, class-reads.
 
 abbrev write-Inv-loop : write-lts.InvT-loop
 write-Inv-loop s offsets out₀ at solid q left class next₀ k₀ out next k =
-    Writing (recordsOf s) left q out₀ at out next k
+    Writing (solidState (recordsOf s)) left q out₀ at out next k
 
 abbrev write-μ-loop : write-lts.MeasureT-loop
 write-μ-loop s offsets out₀ at solid q left class next₀ k₀ out next k = 8 - k

@@ -1,11 +1,11 @@
--- `build_vectors::is_filled` is safe and ends.
+-- `build_lines::show` is safe and ends.
 use borrow.Author.Needs.{needs}
 use Prim.Native.Nat.{_-_, _≤_}
-use Rattle.build_vectors.proofs.is_filled.Statement.{statement}
-use Rattle.build_vectors.proofs.is_filled.Tie as tie
+use Rattle.build_lines.proofs.show.Statement.{statement}
+use Rattle.build_lines.proofs.show.Tie as tie
 
 abbrev Inv-loop : tie.InvT-loop
-Inv-loop out n i₀ i-end i = n ≤ i
+Inv-loop out n i₀ i-end i = i ≤ i-end
 
 abbrev μ-loop : tie.MeasureT-loop
 μ-loop out n i₀ i-end i = i-end - i
@@ -13,11 +13,14 @@ abbrev μ-loop : tie.MeasureT-loop
 loop-holds : tie.Need-loop-holds Inv-loop μ-loop
 loop-holds c = search needs
 
-shared-slice-read-if1 : tie.Need-shared-slice-read-if1 Inv-loop μ-loop
-shared-slice-read-if1 c = search needs
-
 returns : tie.Need-returns Inv-loop μ-loop
 returns c = search needs
+
+shared-slice-read-byte : tie.Need-shared-slice-read-byte Inv-loop μ-loop
+shared-slice-read-byte c = search needs
+
+byte-requires : tie.Need-byte-requires Inv-loop μ-loop
+byte-requires c κs = search needs
 
 add-i : tie.Need-add-i Inv-loop μ-loop
 add-i c = search needs
@@ -31,15 +34,16 @@ loop-again c = search needs
 returns-2 : tie.Need-returns-2 Inv-loop μ-loop
 returns-2 c = search needs
 
-pub is-filled-spec : {M : Type 1} → statement M
-is-filled-spec =
+pub show-spec : {M : Type 1} → statement M
+show-spec =
     tie.close
     (tie.spec
     Inv-loop
     μ-loop
     loop-holds
-    shared-slice-read-if1
     returns
+    shared-slice-read-byte
+    byte-requires
     add-i
     loop-less
     loop-again

@@ -1,7 +1,7 @@
 -- How the rules of states are related: either is both turned over, and what both gives for In, for Out, for a state with itself and with its complement, and
 -- for any other two states.
 use mathlib.Core.Path.{_≡_, refl, sym, _∙_}
-use mathlib.Core.Bool.{true, false}
+use mathlib.Core.Bool.{false}
 use Rattle.integers.proofs.Order.{by-test}
 use Rattle.colour.specs.declared.State.{State}
 use Rattle.colour.specs.declared.State.the-variants.{Out, In, Single, Comp, Mixed}

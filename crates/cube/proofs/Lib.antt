@@ -4,6 +4,7 @@ pub mod Corners
 pub mod Cubes
 pub mod Places
 pub mod AtPlace
+pub mod Around
 pub mod Children
 pub mod Inverse
 pub mod InRoot

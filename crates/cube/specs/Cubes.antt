@@ -44,3 +44,7 @@ cubeAt r place level =
       side = 2 ^ (r .k - level);
       level = level;
     }
+
+-- the cube of a level that a place lies in: the place is rounded down to a multiple of 8^(d-level)
+unfoldable pub cubeAround : Root → ℕ → ℕ → Cube
+cubeAround r place level = let size = 8 ^ (r .d - level) in cubeAt r (place / size * size) level

@@ -5,14 +5,13 @@ use mathlib.Core.Logic.{_⊎_, inl, inr, ⊎-elim}
 use mathlib.Core.List.{List}
 use Prim.Native.Nat.{ℕ, _-_, _≤_}
 use native.Mathlib.Omega.{arith}
-use lib.ListN.{length, getD}
+use lib.ListN.{length}
 use Rattle.integers.proofs.Order.{by-test}
 use Rattle.interval.specs.declared.Interval.{Interval}
 use Rattle.sheet.specs.declared.Record.{Record}
 use Rattle.sheet.specs.declared.Record.the-variants.{Constant, X, Y, Z, Sum, Difference, Product, Square, Face, Both, Either, Complement}
 use Rattle.sheet.specs.Records.{recordsOf}
 use Rattle.sheet.specs.Operands.{firstOf, secondOf}
-use Rattle.sheet.specs.Along.{along}
 use Rattle.sheet.proofs.Along.{Pairs, related}
 use Rattle.records.specs.Faces.{hasFace}
 use Rattle.cube.specs.declared.Root.{Root}
@@ -23,7 +22,7 @@ use Rattle.colour.specs.declared.State.{State}
 use Rattle.colour.specs.declared.State.the-variants.{Out, In, Mixed}
 use Rattle.colour.specs.Bounds.{boundsOf}
 use Rattle.colour.specs.States.{isIn, isOut, faceState, complementOf, otherwiseOf, joinedBy, stateWith}
-use Rattle.colour.specs.Entries.{Entry, blank, faceBounds, entryWith, entryOf, entries}
+use Rattle.colour.specs.Entries.{Entry, blank, faceBounds, entryWith, entryOf}
 use Rattle.colour.proofs.Smaller.{none-keep}
 use Rattle.soundness.proofs.StatesSound.{mixed-sound}
 use Rattle.zonemap.specs.Opening.{faceGood}
@@ -127,7 +126,7 @@ module _ (q : Cube) where
   solid-known rs = known rs (length rs - 1)
 
 -- ---- maps of that time are truthful
-before-good : (rs : List Record) (level : ℕ) (q : Cube) → faceGood (hasFace rs) (leafBy level (solidBefore rs q)) ≡ true
+pub before-good : (rs : List Record) (level : ℕ) (q : Cube) → faceGood (hasFace rs) (leafBy level (solidBefore rs q)) ≡ true
 unfolding faceGood
 before-good rs level q =
     ⊎-elim (λ (m : solidBefore rs q ≡ Mixed). rw m) (λ (e : solidBefore rs q ≡ solidState rs q). rw e (solid-good rs level q)) (solid-known q rs)
@@ -142,7 +141,7 @@ truthful-before = truthful-by solidBefore before-good before-sound
 
 -- ---- they are not shorter
 -- a cube that is gray now was gray
-gray-before : (rs : List Record) (q : Cube) → isGray (solidState rs) q ≡ true → isGray (solidBefore rs) q ≡ true
+pub gray-before : (rs : List Record) (q : Cube) → isGray (solidState rs) q ≡ true → isGray (solidBefore rs) q ≡ true
 unfolding isGray
 gray-before rs q e =
     ⊎-elim (λ (m : solidBefore rs q ≡ Mixed). rw m) (λ (k : solidBefore rs q ≡ solidState rs q). rw k e) (solid-known q rs)
@@ -150,8 +149,12 @@ gray-before rs q e =
 map-no-longer : (rs : List Record) (root : Root) → length (builtMap rs root) ≤ length (mapBy (solidBefore rs) root)
 unfolding mapBy
 map-no-longer rs root =
-    omega (arith, map-length root (allLeaves (solidState rs) root), map-length root (allLeaves (solidBefore rs) root),
-    leaves-fewer (solidState rs) (solidBefore rs) (gray-before rs) (root .d) (rootCube root))
+    omega (
+      arith,
+      map-length root (allLeaves (solidState rs) root),
+      map-length root (allLeaves (solidBefore rs) root),
+      leaves-fewer (solidState rs) (solidBefore rs) (gray-before rs) (root .d) (rootCube root),
+    )
 
 module _ (sheet : List ℕ) (root : Root) (before : List ℕ) where
   pub no-longer : zoneBuildBefore sheet root before .reply .code ≡ 0

@@ -11,6 +11,7 @@ pub mod Rows
 pub mod LimitRows
 pub mod Row11
 pub mod Before03
+pub mod StillAnswered
 pub mod SameFace
 pub mod Kept
 pub mod Contracts

@@ -3,10 +3,8 @@
 use mathlib.Core.Path.{_≡_, refl, sym, ap, _∙_}
 use mathlib.Core.Bool.{Bool, true, false, cond, not}
 use mathlib.Core.List.{List, [], _∷_}
-use Prim.Native.Nat.{ℕ, _≤_}
+use Prim.Native.Nat.{ℕ, zero, suc, _≤_}
 use native.Mathlib.Omega.{arith}
-use borrow.Author.Tests.{eqb-true, eqb-false}
-use lib.Dec.{eqb}
 use Rattle.integers.specs.First.{onFirst}
 use Rattle.integers.proofs.First.{none-first}
 use Rattle.integers.proofs.Order.{by-test}
@@ -143,6 +141,15 @@ module _ (sheet map : List ℕ) (p : Point) where
   }
 
 -- ---- the truth
+-- one of the five classes
+pub by-class : {A : Type 0} (class : ℕ) → class ≤ 4 → (class ≡ 0 → A) → (class ≡ 1 → A) → (class ≡ 2 → A) → (class ≡ 3 → A) → (class ≡ 4 → A) → A
+by-class zero h white black terminal complement gray = white refl
+by-class (suc zero) h white black terminal complement gray = black refl
+by-class (suc (suc zero)) h white black terminal complement gray = terminal refl
+by-class (suc (suc (suc zero))) h white black terminal complement gray = complement refl
+by-class (suc (suc (suc (suc zero)))) h white black terminal complement gray = gray refl
+by-class (suc (suc (suc (suc (suc n))))) h white black terminal complement gray = absurd (omega arith)
+
 -- 1 and 0 are different sides, and 2 is neither
 same-side : (a b : Bool) → reply 0 (cond a 1 0) ≡ reply 0 (cond b 1 0) → a ≡ b
 same-side true true e = refl
@@ -150,7 +157,7 @@ same-side true false e = let z : _≡_ {A = ℕ} 1 0 = ap (λ (r : ZoneReply). r
 same-side false true e = let z : _≡_ {A = ℕ} 0 1 = ap (λ (r : ZoneReply). r .number) e in absurd (omega arith)
 same-side false false e = refl
 
-no-side : (b : Bool) → reply 0 2 ≡ reply 0 (cond b 1 0) → ⊥
+pub no-side : (b : Bool) → reply 0 2 ≡ reply 0 (cond b 1 0) → ⊥
 no-side true e = let z : _≡_ {A = ℕ} 2 1 = ap (λ (r : ZoneReply). r .number) e in omega arith
 no-side false e = let z : _≡_ {A = ℕ} 2 0 = ap (λ (r : ZoneReply). r .number) e in omega arith
 
@@ -162,15 +169,12 @@ module _ (sheet map : List ℕ) (p : Point) (t : ByTheLeaf sheet map p) (h : Agr
 
   leaf-true : inSolid (recordsOf sheet) (whole p) ≡ side
   leaf-true =
-      by-test (eqb (l .class) 0)
-      (λ a. let k = eqb-true (l .class) 0 a in h .white k ∙ same-side false side (sym (t .white k) ∙ e))
-      (λ a. by-test (eqb (l .class) 1)
-      (λ b. let k = eqb-true (l .class) 1 b in h .black k ∙ same-side true side (sym (t .black k) ∙ e))
-      (λ b. by-test (eqb (l .class) 2)
-      (λ c. let k = eqb-true (l .class) 2 c in h .terminal k .1 ∙ same-side _ side (sym (t .terminal k) ∙ e))
-      (λ c. by-test (eqb (l .class) 3)
-      (λ d. let k = eqb-true (l .class) 3 d in h .complement k .1 ∙ same-side _ side (sym (t .complement k) ∙ e))
-      (λ d. absurd (no-side side (sym (t .gray (omega (arith, class, eqb-false (l .class) 0 a, eqb-false (l .class) 1 b, eqb-false (l .class) 2 c, eqb-false (l .class) 3 d))) ∙ e))))))
+      by-class (l .class) class
+      (λ k. h .white k ∙ same-side false side (sym (t .white k) ∙ e))
+      (λ k. h .black k ∙ same-side true side (sym (t .black k) ∙ e))
+      (λ k. h .terminal k .1 ∙ same-side _ side (sym (t .terminal k) ∙ e))
+      (λ k. h .complement k .1 ∙ same-side _ side (sym (t .complement k) ∙ e))
+      (λ k. absurd (no-side side (sym (t .gray k) ∙ e)))
 
 -- so a lookup in a truthful map tells the truth
 module _ (sheet map : List ℕ) (truthful : Truthful sheet map) (p : Point) where

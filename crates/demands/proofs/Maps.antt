@@ -1,8 +1,9 @@
 -- What a map built from a sheet is: the map that the rules name. It opens, and each of its leaves is that of the cube at its own place.
 use mathlib.Core.Path.{_≡_, sym, ap, _∙_}
 use mathlib.Core.Bool.{true}
-use mathlib.Core.List.{List, [], _++_}
+use mathlib.Core.List.{List, _++_}
 use Prim.Native.Nat.{ℕ, _<_}
+use borrow.Author.Tests.{eqb-true, eq-eqb}
 use lib.ListN.{length, take, drop}
 use lib.Seq.{take-append-seam, drop-append-seam}
 use Rattle.replies.specs.declared.Reply.the-variants.{Done}
@@ -14,18 +15,19 @@ use Rattle.cube.specs.declared.Root.{Root}
 use Rattle.cube.specs.declared.Cube.{Cube}
 use Rattle.cube.specs.declared.Point.{Point}
 use Rattle.cube.specs.Limits.{inLimits}
-use Rattle.cube.specs.Cubes.{rootCube}
+use Rattle.cube.specs.Cubes.{rootCube, cubeAround}
 use Rattle.cube.specs.Points.{InRoot}
 use Rattle.colour.specs.declared.State.{State}
+use Rattle.colour.specs.States.{classOf}
 use Rattle.colour.proofs.Smaller.{none-keep}
 use Rattle.zonemap.specs.Opening.{rootOf, leavesOf, faceGood, faultOf}
-use Rattle.zonemap.specs.Leaves.{nthLeaf, nthCube}
+use Rattle.zonemap.specs.Leaves.{nthLeaf, nthPlace, nthCube}
 use Rattle.zonemap.proofs.Bytes.{map-length}
-use Rattle.tree.specs.Solid.{solidState, leafBy, leafOf}
+use Rattle.tree.specs.Solid.{solidState, leafBy, isGray, leafOf}
 use Rattle.building.specs.Build.{mapBy, builtMap, buildWith}
 use Rattle.building.proofs.Answers.{Made}
 use Rattle.roundtrip.proofs.Named.{solid-good}
-use Rattle.roundtrip.proofs.Built.{allLeaves, tree-root, tree-leaves, tree-opens, tree-leaf}
+use Rattle.roundtrip.proofs.Built.{allLeaves, tree-root, tree-leaves, tree-opens, tree-leaf, tree-above}
 use Rattle.zone.specs.Replies.{ZoneOutcome, outcomeByNumber, zoneBuildOf}
 use Rattle.demands.specs.Terms.{BuiltBy, Built, Opens, CanLookUp}
 use Rattle.demands.specs.Demands.{TheMap}
@@ -82,6 +84,19 @@ module _ (over : List Record → Cube → State) (good : (rs : List Record) (lev
     pub leaf-there : (i : ℕ) → i < length (leavesOf map) → nthLeaf map i ≡ leafOf (over rs) (nthCube map i)
     leaf-there i h = rw (leaves-are, root-is) (tree-leaf (hasFace rs) (over rs) (good rs) root within i (rw leaves-are at h))
 
+    -- and all cubes above it are gray
+    pub above-there : (i level : ℕ) → i < length (leavesOf map) → level < nthLeaf map i .level → isGray (over rs) (cubeAround (rootOf map) (nthPlace map i) level) ≡ true
+    above-there i level h = rw (leaves-are, root-is) (tree-above (hasFace rs) (over rs) (good rs) root within i (rw leaves-are at h) level)
+
+-- its class is 4
+pub gray-class : (over : Cube → State) (q : Cube) → isGray over q ≡ true → leafOf over q .class ≡ 4
+unfolding isGray leafOf
+gray-class over q e = eqb-true (classOf (over q)) 4 e
+
+pub class-gray : (over : Cube → State) (q : Cube) → leafOf over q .class ≡ 4 → isGray over q ≡ true
+unfolding isGray leafOf
+class-gray over q e = eq-eqb (classOf (over q)) 4 e
+
 -- ---- a map built from a sheet
 module _ (sheet map : List ℕ) (b : Built sheet map) where
   -- a lookup in it is refused only if the position is not in the root
@@ -107,4 +122,5 @@ module _ (sheet map : List ℕ) (b : Built sheet map) where
         later-stay = later-stay (b .size) (builtMap (recordsOf sheet) (b .root)) (b .before) (b .after) (made .size) (made .bytes);
         opens = zone-opens map .done (any-opens (hasFace (recordsOf sheet)) map (opens-with solidState solid-good sheet map b));
         leaf = leaf-there solidState solid-good sheet map b;
+        above = λ i level h l. gray-class (solidState (recordsOf sheet)) _ (above-there solidState solid-good sheet map b i level h l);
       }

@@ -29,7 +29,7 @@ use Rattle.cube.proofs.Numbers.{within-limits, limits-within, out-of-limits}
 use Rattle.colour.specs.Entries.{firstPast}
 use Rattle.colour.proofs.FirstPast.{past-at}
 use Rattle.colour.proofs.Smaller.{none-keep, keep-none}
-use Rattle.building.specs.Build.{Outcome, outcome, builtMap, storedOf, overRootWith, overRootOf, buildWith, buildOf}
+use Rattle.building.specs.Build.{Outcome, outcome, builtMap, storedOf, overRootWith, overRootOf, buildWith}
 use Rattle.building.proofs.Answers.{Made, done-made}
 use Rattle.zone.specs.declared.ZoneReply.{ZoneReply}
 use Rattle.zone.specs.Replies.{reply, byNumber, zoneCheckOf, ZoneOutcome, zoneOutcome, outcomeByNumber, zoneBuildOf}

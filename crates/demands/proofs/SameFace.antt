@@ -37,6 +37,7 @@ use Rattle.demands.proofs.Sheets.{good-check}
 use Rattle.demands.proofs.Truthful.{no-touch}
 use Rattle.demands.proofs.Soundness.{truthful}
 use Rattle.demands.proofs.Before03.{same-state, truthful-before, no-longer}
+use Rattle.demands.proofs.StillAnswered.{still-answered}
 
 -- ---- the rule
 -- a state that names a face has class 2 or 3 and that face, and so has its complement
@@ -87,6 +88,7 @@ same-face = record {
       let before = truthful-before sheet old b in
       let now = truthful sheet new c in
       (no-touch sheet old new before now, no-touch sheet new old now before);
+  still-answered = still-answered;
   no-longer = no-longer;
 }
 

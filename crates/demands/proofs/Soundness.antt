@@ -14,7 +14,6 @@ use Rattle.zonemap.specs.declared.Leaf.{Leaf}
 use Rattle.zonemap.specs.Opening.{faceGood}
 use Rattle.zonemap.specs.Leaves.{nthLeaf, nthCube}
 use Rattle.colour.specs.declared.State.{State}
-use Rattle.colour.specs.States.{classOf, faceOf}
 use Rattle.soundness.specs.Claims.{Sound}
 use Rattle.soundness.proofs.StatesSound.{states-sound}
 use Rattle.tree.specs.Solid.{solidState, leafBy, leafOf}

@@ -11,6 +11,7 @@ use Rattle.sheet.specs.Records.{recordsOf}
 use Rattle.cube.specs.declared.Root.{Root}
 use Rattle.cube.specs.declared.Cube.{Cube}
 use Rattle.cube.specs.declared.Point.{Point}
+use Rattle.cube.specs.Cubes.{cubeAround}
 use Rattle.cube.specs.Points.{InRoot, CubeInside}
 use Rattle.meaning.specs.Fractions.{FractionalPoint, whole, InClosedRoot}
 use Rattle.meaning.specs.Truth.{holdsAt, inSolid}
@@ -18,7 +19,7 @@ use Rattle.colour.specs.declared.State.{State}
 use Rattle.colour.specs.declared.State.the-variants.{Out, In, Single, Comp, Mixed}
 use Rattle.colour.specs.States.{bothOf, eitherOf}
 use Rattle.zonemap.specs.Opening.{rootOf, leavesOf, anyFace}
-use Rattle.zonemap.specs.Leaves.{nthLeaf, nthCube}
+use Rattle.zonemap.specs.Leaves.{nthLeaf, nthPlace, nthCube}
 use Rattle.tree.specs.Solid.{solidState, leafOf}
 use Rattle.building.specs.Build.{builtMap}
 use Rattle.zone.specs.declared.ZoneReply.{ZoneReply}
@@ -57,6 +58,9 @@ pub record TheMap (sheet map : List ℕ) (built : Built sheet map) : Type 0 wher
   pub opens : zoneOpenOf map ≡ reply 0 (length (leavesOf map))
   pub root : rootOf map ≡ built .root
   pub leaf : (i : ℕ) → i < length (leavesOf map) → nthLeaf map i ≡ leafOf (solidState (recordsOf sheet)) (nthCube map i)
+  -- and every cube that it lies in, of a lesser level, is gray: only gray cubes were split
+  pub above : (i level : ℕ) → i < length (leavesOf map) → level < nthLeaf map i .level
+      → leafOf (solidState (recordsOf sheet)) (cubeAround (rootOf map) (nthPlace map i) level) .class ≡ 4
 
 -- A lookup answers by the leaf that holds the position, and by that leaf's one face where it names one. (White answers 0, black 1, gray 2. Terminal works
 -- out its face exactly at the point; class 3 turns the answer over.)
@@ -117,6 +121,9 @@ pub record SameFace : Type 0 where
   -- demand 3 holds of maps built before the change too; so an old and a new map of one sheet do not touch white to black either
   pub truthful : (sheet map : List ℕ) → BuiltBefore sheet map → Truthful sheet map
   pub no-touch : (sheet old new : List ℕ) → BuiltBefore sheet old → Built sheet new → NoTouch old new × NoTouch new old
+  -- a position that an old map answered, inside or outside, gets the same answer from the new map of that root and depth
+  pub still-answered : (sheet old new : List ℕ) → BuiltBefore sheet old → Built sheet new → rootOf old ≡ rootOf new → (p : Point) (inside : Bool)
+      → zoneLookupOf sheet old p ≡ reply 0 (cond inside 1 0) → zoneLookupOf sheet new p ≡ reply 0 (cond inside 1 0)
   -- where building had room for the map, it still has, and the map is not longer
   pub no-longer : (sheet : List ℕ) (root : Root) (before : List ℕ) → zoneBuildBefore sheet root before .reply .code ≡ 0
       → (zoneBuildOf sheet root before .reply .code ≡ 0) × (zoneBuildOf sheet root before .reply .number ≤ zoneBuildBefore sheet root before .reply .number)

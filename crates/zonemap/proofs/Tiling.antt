@@ -1,18 +1,19 @@
 -- In a map that opens, each whole point of the root is in exactly one leaf: the one that holds the point's place.
-use mathlib.Core.Path.{_≡_}
+use mathlib.Core.Path.{_≡_, ap}
 use mathlib.Core.Bool.{Bool, true}
 use mathlib.Core.List.{List, []}
-use Prim.Native.Nat.{ℕ, _+_, _-_, _*_, _/_, _^_, _<_}
+use Prim.Native.Nat.{ℕ, _+_, _-_, _*_, _/_, _^_, _≤_, _<_}
 use native.Mathlib.Nat.{div-add-mod'}
 use native.Mathlib.Omega.{arith}
 use lib.ListN.{length, getD}
 use Rattle.cube.specs.declared.Point.{Point}
 use Rattle.cube.specs.declared.Root.{Root}
 use Rattle.cube.specs.Limits.{inLimits}
-use Rattle.cube.specs.Cubes.{rootCube, cubeAt}
+use Rattle.cube.specs.Cubes.{rootCube, cubeAt, cubeAround}
 use Rattle.cube.specs.Points.{holdsPoint, placeOf}
 use Rattle.cube.proofs.Places.{place-below}
 use Rattle.cube.proofs.AtPlace.{placed-holds, holds-placed}
+use Rattle.cube.proofs.Around.{around-is}
 use Rattle.zonemap.specs.declared.Leaf.{Leaf}
 use Rattle.zonemap.specs.Opening.{rootOf, leavesOf, sizeOf, faultOf, leafAt}
 use Rattle.zonemap.specs.Leaves.{placeAt, nowhere, Holds}
@@ -71,10 +72,27 @@ module _ (named : ℕ → Bool) (s : List ℕ) (opens : faultOf named s ≡ []) 
               (omega (arith, t, held .from)) (omega (arith, t, held .till))),
         )
 
-    -- and no other leaf's does
-    pub only-one : (i : ℕ) → i < length ls → InLeaf p i → i ≡ one
-    only-one i h e =
-        let t = times i h in
-        let f = fine i h in
-        let b = holds-placed r p within inside (d - leaf i .level) (leaf i .level) (placeAt d i ls / sizeOf d (leaf i)) (levels i h) (omega (arith, t, good-place named d (placeAt d i ls) (leaf i) f .1)) (rw t e) in
-        holds-one d (placeOf r p) 0 i ls (record { among = h; from = omega (arith, t, b .0); till = omega (arith, t, b .1) })
+    module _ (i : ℕ) (h : i < length ls) (e : InLeaf p i) where
+      -- a leaf whose cube holds the point has the point's place among its own
+      placed : (placeAt d i ls ≤ placeOf r p) × (placeOf r p < placeAt d i ls + sizeOf d (leaf i))
+      placed =
+          let t = times i h in
+          let b = holds-placed r p within inside (d - leaf i .level) (leaf i .level) (placeAt d i ls / sizeOf d (leaf i)) (levels i h) (omega (arith, t, good-place named d (placeAt d i ls) (leaf i) (fine i h) .1)) (rw t e) in
+          (omega (arith, t, b .0), omega (arith, t, b .1))
+
+      -- so no other leaf's does
+      pub only-one : i ≡ one
+      only-one = holds-one d (placeOf r p) 0 i ls (record { among = h; from = omega (arith, placed); till = omega (arith, placed) })
+
+      -- and its cube is the one of its level that the point's place lies in
+      pub around-point : cubeAround r (placeOf r p) (leaf i .level) ≡ cubeAt r (placeAt d i ls) (leaf i .level)
+      around-point =
+          let t = times i h in
+          rw t at (around-is r (d - leaf i .level) (leaf i .level) (placeAt d i ls / sizeOf d (leaf i)) (placeOf r p) (levels i h) (omega (arith, t, placed .0)) (omega (arith, t, placed .1)))
+
+      -- a smallest leaf is at the point's place
+      pub smallest-place : leaf i .level ≡ d → placeAt d i ls ≡ placeOf r p
+      smallest-place same =
+          let w : d - leaf i .level ≡ 0 = omega arith in
+          let s : sizeOf d (leaf i) ≡ 1 = ap (λ (n : ℕ). 8 ^ n) w in
+          omega (arith, s, placed)

@@ -75,10 +75,11 @@ struct Run<'a> {
 
 type Check = fn(&mut Run) -> Result<(), String>;
 
-const CHECKS: [(&str, Check); 8] = [
+const CHECKS: [(&str, Check); 9] = [
     ("guard pages", guard_pages),
     ("comparison", comparison),
     ("codes reached", codes_reached),
+    ("faces met", faces_met),
     ("row 11", row_11),
     ("relations", relations),
     ("wrong rules", wrong_rules),
@@ -173,6 +174,13 @@ fn codes_reached(run: &mut Run) -> Result<(), String> {
     let ways = [Call::Build, Call::Lookup].map(|call| covered.reached_all_ways(call));
     let what = "codes reached: every one of 0 to 10, no other, 9 for each sort of offset, and 7 for each way to pass 2^60";
     run.count(what, codes == all && [offsets, ways] == [[true; 2]; 2]);
+    Ok(())
+}
+
+/// Both and either met every case of request 2026-03, and those beside it.
+fn faces_met(run: &mut Run) -> Result<(), String> {
+    let what = "faces met: builds joined a face with itself, with its complement, with one over the same operand and with others, in every way";
+    run.count(what, run.covered.met_in_all_ways());
     Ok(())
 }
 

@@ -159,9 +159,10 @@ pub fn strip_is_noticed() -> Result<bool, String> {
     Ok(wrong_leaf(&sheet, &leaves, &[point], &mut Counts::default()).is_some())
 }
 
-/// With [0, 2] called Out, white at x from 2 to 4 touches black at x from 0 to 2.
+/// With [0, 2] called Out, white at x from 2 to 4 touches black at x from 0 to 2. Two faces make the root gray.
 pub fn touch_is_noticed() -> Result<bool, String> {
-    let records = vec![X, Constant(2), Difference(0, 1), Face(2), Both(3, 3)];
+    let faces = [X, Constant(2), Difference(0, 1), Face(2), Face(2)];
+    let records = [&faces[..], &[Both(3, 4)]].concat();
     let leaves = wrong_map(&wrong_builds::zero_out, &Sheet { records }, 1)?;
     Ok(touching(&leaves, &leaves, &mut 0).is_some())
 }

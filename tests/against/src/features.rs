@@ -1,6 +1,7 @@
 //! What a case has that is worth counting.
 
 use crate::case::{Build, Lookup};
+use crate::meetings;
 use paper::bounds::{self, FURTHEST as LIMIT};
 use paper::map::HEADER;
 use paper::root::{Cube, Root, FURTHEST};
@@ -80,14 +81,19 @@ fn of_sheet(sheet: &Sheet) -> Vec<&'static str> {
     ])
 }
 
+/// Features of a sheet over a root in limits: of its bounds and, within their limit, of its states.
 fn of_bounds(sheet: &Sheet, root: &Root) -> Vec<&'static str> {
     let is_past = |furthest| bounds::first_past(furthest, sheet, &root.cube()).is_some();
     let passed = is_past(LIMIT);
     let reached = !passed && is_past(LIMIT - 1);
-    names(&[
+    let mut found = names(&[
         ("bounds: 2^60 passed", passed),
         ("bounds: 2^60 reached, not passed", reached),
-    ])
+    ]);
+    if !passed {
+        found.extend(meetings::of_build(sheet, root));
+    }
+    found
 }
 
 /// Features of a map's length.

@@ -108,10 +108,23 @@ impl Graph<'_> {
         if self.of_sort(Sort::Logical).is_empty() {
             return Face(self.operand(Sort::Arithmetic));
         }
-        match self.random.below(5) {
-            0 | 1 => Both(self.operand(Sort::Logical), self.operand(Sort::Logical)),
-            2 | 3 => Either(self.operand(Sort::Logical), self.operand(Sort::Logical)),
-            _ => Complement(self.operand(Sort::Logical)),
+        let p = self.operand(Sort::Logical);
+        let q = self.beside(p);
+        match self.random.below(10) {
+            0 | 1 => Both(p, q),
+            2 | 3 => Both(q, p),
+            4 | 5 => Either(p, q),
+            6 | 7 => Either(q, p),
+            _ => Complement(p),
+        }
+    }
+
+    /// A logical record to join with another: any, or sometimes the same, or the one whose complement that is.
+    fn beside(&mut self, p: usize) -> usize {
+        match (self.random.below(8), &self.sheet.records[p]) {
+            (0, _) => p,
+            (1 | 2, Complement(turned)) => *turned,
+            _ => self.operand(Sort::Logical),
         }
     }
 

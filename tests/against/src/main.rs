@@ -24,6 +24,8 @@ mod limits;
 mod lookups;
 mod maker;
 mod maps;
+mod meetings;
+mod mentions;
 mod plan;
 mod products;
 mod random;
@@ -38,6 +40,7 @@ mod tally;
 mod wrong_builds;
 mod wrong_ends;
 mod wrong_lookups;
+mod wrong_mentions;
 mod wrong_reads;
 
 use checks::Sizes;

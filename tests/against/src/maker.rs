@@ -22,6 +22,12 @@ impl Maker {
         }
     }
 
+    /// A second record equal to one that is there. Of a face it is another face, over the same operand.
+    pub fn again(&mut self, number: usize) -> usize {
+        self.records.push(self.records[number].clone());
+        self.records.len() - 1
+    }
+
     pub fn constant(&mut self, c: i64) -> usize {
         self.add(Constant(c as i32))
     }

@@ -1,21 +1,23 @@
 //! Realistic rooms.
 
 use crate::maker::Maker;
+use crate::mentions;
 use crate::plan::{self, Plan};
 use crate::random::Random;
 use paper::root::Root;
 use paper::sheet::Record::*;
 
 /// A room under construction, with its root.
-struct Drawing<'a> {
-    random: &'a mut Random,
-    maker: Maker,
-    root: Root,
+pub struct Drawing<'a> {
+    pub random: &'a mut Random,
+    pub maker: Maker,
+    pub root: Root,
 }
 
-type Shape = fn(&mut Drawing) -> usize;
+/// Adds a shape to a drawing, and returns its record's number.
+pub type Shape = fn(&mut Drawing) -> usize;
 
-const SHAPES: [(&str, Shape); 11] = [
+const SHAPES: [(&str, Shape); 10] = [
     ("room: box", boxed),
     ("room: cylinder", cylinder),
     ("room: sphere", sphere),
@@ -25,15 +27,26 @@ const SHAPES: [(&str, Shape); 11] = [
     ("room: wall one unit thin", thin_wall),
     ("room: less a column", column),
     ("room: slanted faces", slanted),
-    ("room: a face twice", face_twice),
     ("room: complement of a complement", twice_complement),
 ];
 
 pub fn room(random: &mut Random) -> Plan {
+    if random.once_in(4) {
+        return mentioning(random);
+    }
+    of_shapes(random, &SHAPES)
+}
+
+/// A room in which a face is mentioned more than once.
+pub fn mentioning(random: &mut Random) -> Plan {
+    of_shapes(random, &mentions::SHAPES)
+}
+
+fn of_shapes(random: &mut Random, shapes: &[(&'static str, Shape)]) -> Plan {
     let k = random.between(2, 16).min(random.between(4, 16)) as u8;
     let k = if random.once_in(12) { k % 3 } else { k };
     let root = plan::root(random, k);
-    let (label, shape) = random.pick(&SHAPES);
+    let (label, shape) = random.pick(shapes);
     drawn(random, root, label, shape)
 }
 
@@ -46,11 +59,12 @@ pub fn largest(turn: u64, random: &mut Random) -> Plan {
     drawn(random, root, "room: of the largest maps", shape)
 }
 
-/// The bounds of x - x contain 0 in every cube, and a face joined with itself is gray.
+/// The bounds of x - x contain 0 in every cube, and two faces over it are gray.
 fn gray(drawing: &mut Drawing) -> usize {
     let x = drawing.maker.axis(0);
     let vague = drawing.maker.at_most(x, x);
-    drawing.maker.add(Either(vague, vague))
+    let again = drawing.maker.again(vague);
+    drawing.maker.add(Either(vague, again))
 }
 
 fn gray_half(drawing: &mut Drawing) -> usize {
@@ -65,7 +79,8 @@ fn gray_sphere(drawing: &mut Drawing) -> usize {
     let half = (1 << drawing.root.k) / 2;
     let centre = drawing.root.low.map(|low| i64::from(low) + half);
     let face = drawing.maker.round(&centre, half - half / 8);
-    drawing.maker.add(Both(face, face))
+    let again = drawing.maker.again(face);
+    drawing.maker.add(Both(face, again))
 }
 
 fn drawn(random: &mut Random, root: Root, label: &'static str, shape: Shape) -> Plan {
@@ -89,37 +104,37 @@ fn drawn(random: &mut Random, root: Root, label: &'static str, shape: Shape) -> 
 
 impl Drawing<'_> {
     /// A size up to the root's side, usually small.
-    fn size(&mut self) -> i64 {
+    pub fn size(&mut self) -> i64 {
         let most = self.random.between(1, 1 << self.root.k);
         self.random.between(1, most)
     }
 
     /// A coordinate in the root or near it.
-    fn along(&mut self, axis: usize) -> i64 {
+    pub fn along(&mut self, axis: usize) -> i64 {
         let side = 1i64 << self.root.k;
         let low = i64::from(self.root.low[axis]);
         low + self.random.between(-side / 8, side)
     }
 
-    fn centre(&mut self) -> [i64; 3] {
+    pub fn centre(&mut self) -> [i64; 3] {
         [0, 1, 2].map(|axis| self.along(axis))
     }
 
     /// Two coordinates in rising order.
-    fn stretch(&mut self, axis: usize) -> [i64; 2] {
+    pub fn stretch(&mut self, axis: usize) -> [i64; 2] {
         let low = self.along(axis);
         [low, low + self.size()]
     }
 
     /// The space over a floor plan, from floor to ceiling.
-    fn storey(&mut self, floor_plan: usize) -> usize {
+    pub fn storey(&mut self, floor_plan: usize) -> usize {
         let z = self.stretch(2);
         let heights = self.maker.between(2, z[0], z[1]);
         self.maker.add(Both(floor_plan, heights))
     }
 }
 
-fn boxed(drawing: &mut Drawing) -> usize {
+pub fn boxed(drawing: &mut Drawing) -> usize {
     let (x, y) = (drawing.stretch(0), drawing.stretch(1));
     let floor_plan = drawing.maker.rectangle(x, y);
     drawing.storey(floor_plan)
@@ -210,7 +225,7 @@ fn slanted(drawing: &mut Drawing) -> usize {
     solid
 }
 
-fn half_space(drawing: &mut Drawing) -> usize {
+pub fn half_space(drawing: &mut Drawing) -> usize {
     let through = drawing.centre();
     let mut limit = 0;
     let mut total = drawing.maker.constant(0);
@@ -223,23 +238,6 @@ fn half_space(drawing: &mut Drawing) -> usize {
     }
     let limit = drawing.maker.constant(limit);
     drawing.maker.at_most(total, limit)
-}
-
-/// A face mentioned twice, or two faces over one operand.
-fn face_twice(drawing: &mut Drawing) -> usize {
-    let (centre, radius) = (drawing.centre(), drawing.size());
-    let face = drawing.maker.round(&centre, radius);
-    let again = if drawing.random.once_in(2) {
-        face
-    } else {
-        let same = drawing.maker.records[face].clone();
-        drawing.maker.records.push(same);
-        drawing.maker.records.len() - 1
-    };
-    if drawing.random.once_in(2) {
-        return drawing.maker.add(Both(face, again));
-    }
-    drawing.maker.add(Either(face, again))
 }
 
 fn twice_complement(drawing: &mut Drawing) -> usize {

@@ -6,8 +6,10 @@ use crate::group::{Group, Make};
 use crate::wrong_builds::*;
 use crate::wrong_ends::*;
 use crate::wrong_lookups::*;
+use crate::wrong_mentions::*;
 use crate::wrong_reads::*;
 use crate::{alone, builds, ends, every_byte, lookups, products};
+use paper::before_03;
 
 /// A wrong rule: its description, the cases that show it, and the oracle that follows it.
 pub struct Slip {
@@ -60,6 +62,48 @@ const OF_BUILDING: [(&str, Make, Wrong); 17] = [
     ("k at most 15", BUILDING, k_at_most_15),
     ("later bytes cleared", BUILDING, later_cleared),
     ("a short buffer filled", BUILDING, short_filled),
+];
+
+/// Of both and either of two states of one face each.
+const OF_MENTIONS: [(&str, Make, Wrong); 10] = [
+    ("a face mentioned twice is Mixed", BUILDING, |c| {
+        coloured(c, &before_03::colour)
+    }),
+    ("different faces give the first", BUILDING, |c| {
+        coloured(c, &first_of_two)
+    }),
+    (
+        "both of a face and its complement is Mixed",
+        BUILDING,
+        |c| coloured(c, &both_of_complement_mixed),
+    ),
+    ("both of a face and its complement is In", BUILDING, |c| {
+        coloured(c, &both_of_complement_in)
+    }),
+    (
+        "either of a face and its complement is Mixed",
+        BUILDING,
+        |c| coloured(c, &either_of_complement_mixed),
+    ),
+    (
+        "either of a face and its complement is Out",
+        BUILDING,
+        |c| coloured(c, &either_of_complement_out),
+    ),
+    (
+        "a complement is decided only after its face",
+        BUILDING,
+        |c| coloured(c, &face_first),
+    ),
+    ("Comp(f) with Comp(f) is Single(f)", BUILDING, |c| {
+        coloured(c, &comp_as_single)
+    }),
+    ("mentions compared by record, not by face", BUILDING, |c| {
+        coloured(c, &by_record)
+    }),
+    ("two faces over one operand are one", BUILDING, |c| {
+        coloured(c, &by_operand)
+    }),
 ];
 
 const OF_SHEETS: [(&str, Make, Wrong); 6] = [
@@ -141,7 +185,8 @@ fn of_ends() -> impl Iterator<Item = (String, Make, Wrong)> {
 
 pub fn slips() -> impl Iterator<Item = Slip> {
     let of_reading = OF_SHEETS.into_iter().chain(OF_OPENING);
-    let all = OF_BUILDING.into_iter().chain(of_reading).chain(OF_LOOKING);
+    let of_building = OF_BUILDING.into_iter().chain(OF_MENTIONS);
+    let all = of_building.chain(of_reading).chain(OF_LOOKING);
     let all = all.map(|(name, make, oracle)| (name.to_string(), make, oracle));
     all.chain(of_ends()).map(|(name, make, oracle)| Slip {
         name,

@@ -4,6 +4,7 @@ use crate::builds::Made;
 use crate::case::{Build, Call, Case, Lookup, Outcome, CALLS, PLACINGS};
 use crate::fault::{Fault, WAYS};
 use crate::features;
+use crate::meetings::MEETINGS;
 use paper::Reply;
 use std::collections::BTreeMap;
 
@@ -125,6 +126,11 @@ impl Tally {
     /// Whether a call gave reply 7 for every way to pass the limit.
     pub fn reached_all_ways(&self, call: Call) -> bool {
         self.ways[call as usize].iter().all(|&count| count > 0)
+    }
+
+    /// Whether states of one face each met in every way.
+    pub fn met_in_all_ways(&self) -> bool {
+        MEETINGS.iter().all(|way| self.features.contains_key(way))
     }
 
     /// The number of calls, as in '20 builds, 3 lookups'.

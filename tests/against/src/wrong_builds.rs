@@ -161,27 +161,23 @@ pub fn zero_undecided(sheet: &Sheet, cube: &Cube) -> Colour {
     })
 }
 
-/// The paper's colour, by other rules for states.
-fn by_rules(sheet: &Sheet, cube: &Cube, rules: &Rules) -> Colour {
-    colour::class(colour::solid(rules, sheet, &bounds::over(sheet, cube)))
-}
-
 pub fn either_not_passed_on(sheet: &Sheet, cube: &Cube) -> Colour {
     let either = |p, q| match (p, q) {
         (State::In, _) | (_, State::In) => State::In,
         (State::Out, State::Out) => State::Out,
         _ => State::Mixed,
     };
-    by_rules(sheet, cube, &Rules { either, ..RULES })
+    let either = &either;
+    colour::colour_by(&Rules { either, ..RULES }, sheet, cube)
 }
 
 pub fn complement_ignored(sheet: &Sheet, cube: &Cube) -> Colour {
-    let complement = |p| p;
+    let complement = &|p| p;
     let rules = Rules {
         complement,
         ..RULES
     };
-    by_rules(sheet, cube, &rules)
+    colour::colour_by(&rules, sheet, cube)
 }
 
 /// A leaf is terminal only if the sheet has one face.

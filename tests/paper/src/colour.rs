@@ -2,7 +2,10 @@
 
 use crate::bounds::{self, Interval};
 use crate::root::Cube;
-use crate::sheet::{Record::*, Sheet};
+use crate::sheet::{
+    Record::{self, *},
+    Sheet,
+};
 
 /// The state of a logical record over a cube. A face is known by its record number.
 #[derive(Clone, Copy, Debug, PartialEq, Eq)]
@@ -49,50 +52,75 @@ pub fn complement(p: State) -> State {
     }
 }
 
+/// Document 01, with request 2026-03: "both or either of Single(f) with Single(f) is Single(f), and likewise Comp(f); both
+/// of Single(f) with Comp(f), in either order, is Out, and either of them is In. Different faces stay Mixed."
 pub fn both(p: State, q: State) -> State {
     match (p, q) {
         (Out, _) | (_, Out) => Out,
         (In, other) | (other, In) => other,
+        (Single(f), Single(g)) if f == g => Single(f),
+        (Comp(f), Comp(g)) if f == g => Comp(f),
+        (Single(f), Comp(g)) | (Comp(f), Single(g)) if f == g => Out,
         _ => Mixed,
     }
 }
 
+/// By the same sentence.
 pub fn either(p: State, q: State) -> State {
     match (p, q) {
         (In, _) | (_, In) => In,
         (Out, other) | (other, Out) => other,
+        (Single(f), Single(g)) if f == g => Single(f),
+        (Comp(f), Comp(g)) if f == g => Comp(f),
+        (Single(f), Comp(g)) | (Comp(f), Single(g)) if f == g => In,
         _ => Mixed,
     }
 }
 
-/// The rules for states. They are a parameter of colouring, so that a test can colour by a wrong one.
-pub struct Rules {
-    pub both: fn(State, State) -> State,
-    pub either: fn(State, State) -> State,
-    pub complement: fn(State) -> State,
+/// The rules for states. They are a parameter of colouring, so that a test can colour by others.
+pub struct Rules<'a> {
+    pub both: &'a dyn Fn(State, State) -> State,
+    pub either: &'a dyn Fn(State, State) -> State,
+    pub complement: &'a dyn Fn(State) -> State,
 }
 
 pub const RULES: Rules = Rules {
-    both,
-    either,
-    complement,
+    both: &both,
+    either: &either,
+    complement: &complement,
 };
 
-/// The solid's state, from the bounds of all records.
-pub fn solid(rules: &Rules, sheet: &Sheet, bounds: &[Option<Interval>]) -> State {
-    let mut states: Vec<Option<State>> = Vec::new();
-    for (number, record) in sheet.records.iter().enumerate() {
-        let of = |p: usize| states[p].expect("an operand is logical");
-        let state = match *record {
-            Face(a) => Some(face(number, bounds[a].expect("an operand is arithmetic"))),
-            Both(p, q) => Some((rules.both)(of(p), of(q))),
-            Either(p, q) => Some((rules.either)(of(p), of(q))),
-            Complement(p) => Some((rules.complement)(of(p))),
-            _ => None,
-        };
-        states.push(state);
+/// The state of a record with its number, from the bounds of all records and the states of those before it; None if it
+/// is arithmetic.
+pub fn state(
+    rules: &Rules,
+    (number, record): (usize, &Record),
+    bounds: &[Option<Interval>],
+    before: &[Option<State>],
+) -> Option<State> {
+    let of = |p: usize| before[p].expect("an operand is logical");
+    match *record {
+        Face(a) => Some(face(number, bounds[a].expect("an operand is arithmetic"))),
+        Both(p, q) => Some((rules.both)(of(p), of(q))),
+        Either(p, q) => Some((rules.either)(of(p), of(q))),
+        Complement(p) => Some((rules.complement)(of(p))),
+        _ => None,
     }
-    states.pop().flatten().expect("the last record is logical")
+}
+
+/// The states of all records, from their bounds.
+pub fn states(rules: &Rules, sheet: &Sheet, bounds: &[Option<Interval>]) -> Vec<Option<State>> {
+    let mut states = Vec::new();
+    for numbered in sheet.records.iter().enumerate() {
+        states.push(state(rules, numbered, bounds, &states));
+    }
+    states
+}
+
+/// The solid's state: that of the last record.
+pub fn solid(rules: &Rules, sheet: &Sheet, bounds: &[Option<Interval>]) -> State {
+    let last = states(rules, sheet, bounds).pop().flatten();
+    last.expect("the last record is logical")
 }
 
 /// The solid's state gives the class.
@@ -112,5 +140,10 @@ pub fn class(solid: State) -> Colour {
 
 /// The colour of a cube of a root that is within the limit.
 pub fn colour(sheet: &Sheet, cube: &Cube) -> Colour {
-    class(solid(&RULES, sheet, &bounds::over(sheet, cube)))
+    colour_by(&RULES, sheet, cube)
+}
+
+/// The same, by given rules.
+pub fn colour_by(rules: &Rules, sheet: &Sheet, cube: &Cube) -> Colour {
+    class(solid(rules, sheet, &bounds::over(sheet, cube)))
 }

@@ -5,6 +5,7 @@
 //! place. Clarity comes first. Whole numbers are exact: 128 bits where the paper's limits keep them
 //! small, and of any size elsewhere.
 
+pub mod before_03;
 pub mod bounds;
 pub mod build;
 pub mod colour;

@@ -1,9 +1,10 @@
 //! The checks of a run, each of which counts as one.
 
 use crate::alone;
+use crate::before_03;
 use crate::builds;
 use crate::case::{Call, Case, CALLS};
-use crate::demand3_run::{self, Found};
+use crate::demand3_run;
 use crate::ends;
 use crate::every_byte;
 use crate::group::{report, Group, Make, Setup};
@@ -14,6 +15,7 @@ use crate::row_11;
 use crate::server::{Server, TRESPASSES};
 use crate::slips::slips;
 use crate::tally::Tally;
+use crate::wrong_before;
 use std::time::Instant;
 
 /// The number of random calls of each sort.
@@ -38,6 +40,11 @@ impl Sizes {
     /// The number of sheets that demand 3 is tested on.
     fn sheets(&self) -> u64 {
         self.builds / 50
+    }
+
+    /// The number of sheets whose maps by the rule before request 2026-03 are tested.
+    fn sheets_before(&self) -> u64 {
+        self.builds / 80
     }
 
     /// The number of maps with a leaf turned over.
@@ -75,7 +82,7 @@ struct Run<'a> {
 
 type Check = fn(&mut Run) -> Result<(), String>;
 
-const CHECKS: [(&str, Check); 9] = [
+const CHECKS: [(&str, Check); 10] = [
     ("guard pages", guard_pages),
     ("comparison", comparison),
     ("codes reached", codes_reached),
@@ -85,6 +92,7 @@ const CHECKS: [(&str, Check); 9] = [
     ("wrong rules", wrong_rules),
     ("demand 3", demand_3),
     ("wrong maps", wrong_maps),
+    ("maps of before 2026-03", maps_of_before),
 ];
 
 impl Run<'_> {
@@ -249,33 +257,16 @@ fn wrong_rules(run: &mut Run) -> Result<(), String> {
 }
 
 fn demand_3(run: &mut Run) -> Result<(), String> {
-    let Found {
-        counts,
-        point,
-        touch,
-    } = demand3_run::run(run.setup, run.sizes.sheets())?;
-    for told in point.iter().chain(&touch) {
-        println!("DEMAND 3: {told}");
-    }
-    let [white, black, terminal, complement, gray] = counts.by_class;
-    println!("    {} maps with {} leaves", counts.maps, counts.leaves);
-    let [overlapping, adjacent, apart] = counts.roots;
-    println!(
-        "    two roots of a sheet: {overlapping} overlapping, {adjacent} side by side, {apart} apart; \
-         {} not aligned",
-        counts.not_aligned
-    );
-    println!(
-        "    points in closed leaves: {white} white, {black} black, {terminal} terminal, \
-         {complement} terminal by complement, {gray} gray"
-    );
+    let found = demand3_run::run(run.setup, run.sizes.sheets())?;
+    found.print();
+    let counts = found.counts;
     let what = format!("demand 3, points: {} points agree", counts.points);
-    run.count(&what, point.is_none());
+    run.count(&what, found.point.is_none());
     let what = format!(
         "demand 3, no touch: {} white and black of one map, {} of two",
         counts.pairs, counts.pairs_of_two_maps
     );
-    run.count(&what, touch.is_none());
+    run.count(&what, found.touch.is_none());
     Ok(())
 }
 
@@ -287,6 +278,17 @@ fn wrong_maps(run: &mut Run) -> Result<(), String> {
     println!("    the strip between corners: {strip}; [0, 2] called Out touches: {touch}");
     let what = format!("wrong maps: {noticed} of {turned} leaves turned over are noticed");
     run.count(&what, strip && touch && turned > 0 && noticed == turned);
+    Ok(())
+}
+
+/// Maps of the rule before request 2026-03 keep demand 3, and the library's maps keep what they answer.
+fn maps_of_before(run: &mut Run) -> Result<(), String> {
+    let found = before_03::run(run.setup, run.sizes.sheets_before())?;
+    found.print();
+    let wrong = wrong_before::run(run.setup, run.sizes.turned_over())?;
+    for (what, good) in found.lines().into_iter().chain([wrong.line()]) {
+        run.count(&what, good);
+    }
     Ok(())
 }
 

@@ -1,21 +1,57 @@
-//! Demand 3 from outside: points of fractions against the leaves of maps that the library built, and white
-//! leaves against black ones, in one map and in two maps of one sheet.
+//! Demand 3 from outside: points of fractions against the leaves of maps, and white leaves against black ones, in one
+//! map and in two maps of one sheet.
 
 use crate::case::{hex, Build, Case};
 use crate::plan::{self, Plan};
 use crate::random::Random;
 use crate::server::Server;
 use crate::{graphs, rooms};
+use paper::build::Colouring;
 use paper::colour::{BLACK, TERMINAL, TERMINAL_COMPLEMENT, WHITE};
 use paper::fractions::{Point, Values};
 use paper::map::{self, Leaf, HEADER, LEAF};
 use paper::root::{Cube, Root};
 use paper::sheet::{Record::*, Sheet};
+use paper::Refusal;
 
-/// A map that the library built: its leaves, with their cubes.
+/// A map that was built: its bytes, and its leaves with their cubes.
 pub struct Built {
+    pub bytes: Vec<u8>,
     pub root: Root,
     pub leaves: Vec<(Cube, Leaf)>,
+}
+
+impl Built {
+    /// The map of these bytes, if it opens for the sheet.
+    pub fn read(bytes: Vec<u8>, sheet: &Sheet) -> Result<Built, Refusal> {
+        let opened = map::read_for(&bytes, sheet)?;
+        Ok(Built {
+            root: opened.root,
+            leaves: opened.cubes().collect(),
+            bytes,
+        })
+    }
+
+    /// Turns over a leaf: white to black, black to white, a face to its complement. Returns its cube; None if the leaf
+    /// is gray.
+    pub fn turn_over(&mut self, random: &mut Random) -> Option<Cube> {
+        let at = random.below(self.leaves.len());
+        let (cube, leaf) = &mut self.leaves[at];
+        let turned = [BLACK, WHITE, TERMINAL_COMPLEMENT, TERMINAL];
+        leaf.colour.class = *turned.get(usize::from(leaf.colour.class))?;
+        self.bytes[HEADER + LEAF * at + 1] = leaf.colour.class;
+        Some(*cube)
+    }
+
+    /// Points of the root and of some leaves.
+    pub fn points(&self, random: &mut Random) -> Vec<Point> {
+        let mut points = points_of(&self.root.cube(), random);
+        for _ in 0..LEAVES_TRIED {
+            let (cube, _) = self.leaves[random.below(self.leaves.len())];
+            points.extend(points_of(&cube, random));
+        }
+        points
+    }
 }
 
 /// How much was tested.
@@ -34,6 +70,9 @@ pub struct Counts {
     /// Pairs of roots of which neither is a cube of the other's grid.
     pub not_aligned: u64,
 }
+
+/// The number of leaves per map from which points are taken.
+const LEAVES_TRIED: usize = 8;
 
 /// High powers at points of fractions would need numbers with many thousands of digits.
 const MOST_DEGREE: u32 = 24;
@@ -67,7 +106,7 @@ fn degree(sheet: &Sheet) -> u32 {
     degrees.into_iter().fold(0, u32::max)
 }
 
-/// The library's map, opened; None if the library refuses.
+/// The library's map, of at most so many leaves, opened; None if the library refuses.
 pub fn built(plan: &Plan, leaves: usize, server: &mut Server) -> Result<Option<Built>, String> {
     let case = Case::Build(Build {
         placing: 0,
@@ -80,14 +119,13 @@ pub fn built(plan: &Plan, leaves: usize, server: &mut Server) -> Result<Option<B
     if outcome.replies[0].code != 0 {
         return Ok(None);
     }
-    let opened = map::read_for(&outcome.out, &plan.sheet()).map_err(|refusal| {
+    let length = outcome.replies[0].number as usize;
+    let map = outcome.out.get(..length).unwrap_or_default();
+    let built = Built::read(map.to_vec(), &plan.sheet()).map_err(|refusal| {
         let request = hex(&case.request());
         format!("a map that was built does not open: {refusal:?}; replay {request}")
     })?;
-    Ok(Some(Built {
-        root: opened.root,
-        leaves: opened.cubes().collect(),
-    }))
+    Ok(Some(built))
 }
 
 /// Another root for the same sheet: moved by any number of units or by exactly its side, and of any size.
@@ -219,15 +257,15 @@ fn fraction(cube: &Cube, random: &mut Random) -> Point {
     }
 }
 
-/// Sets a plan's depth, and returns the number of leaves of its map.
-pub fn depth(plan: &mut Plan, random: &mut Random) -> usize {
+/// Sets a plan's depth, and returns the number of leaves of its map by a colouring.
+pub fn depth(plan: &mut Plan, colouring: &Colouring, random: &mut Random) -> usize {
     let most = match random.below(20) {
         0 => 12_000,
         1..=5 => 2_000,
         _ => 300,
     };
-    plan.root.d = plan.root.k.min(10);
-    let (d, leaves) = plan::deepest(&plan.sheet(), &plan.root, plan.root.d, most);
+    let wanted = plan.root.k.min(10);
+    let (d, leaves) = plan::deepest_by(colouring, &plan.sheet(), &plan.root, wanted, most);
     plan.root.d = d;
     leaves
 }

@@ -9,13 +9,11 @@ use crate::server::Server;
 use crate::tally::add_each;
 use crate::wrong_builds;
 use paper::build::{map_by, Colouring};
+use paper::colour;
 use paper::fractions::Point;
 use paper::map::{self, Leaf};
 use paper::root::{Cube, Root};
 use paper::sheet::{Record::*, Sheet};
-
-/// The number of leaves per map from which points are taken.
-const LEAVES_TRIED: usize = 8;
 
 impl Counts {
     pub fn add(&mut self, other: &Counts) {
@@ -38,102 +36,127 @@ pub struct Found {
     pub touch: Option<String>,
 }
 
+impl Found {
+    pub fn add(&mut self, other: Found) {
+        self.counts.add(&other.counts);
+        self.point = self.point.take().or(other.point);
+        self.touch = self.touch.take().or(other.touch);
+    }
+
+    /// Tests points of a map against its leaves.
+    pub fn points(&mut self, plan: &Plan, map: &Built, random: &mut Random) {
+        self.counts.maps += 1;
+        self.counts.leaves += map.leaves.len() as u64;
+        let points = map.points(random);
+        let wrong = wrong_leaf(&plan.sheet(), &map.leaves, &points, &mut self.counts);
+        if let Some(wrong) = wrong {
+            note(&mut self.point, plan, format!("{:?}, {wrong:?}", map.root));
+        }
+    }
+
+    /// Tests white leaves against black ones: in each map, in two of them, and in one of them and one of some others.
+    pub fn touches(&mut self, plan: &Plan, maps: &[Built], others: &[Built]) {
+        if let [one, two] = maps {
+            demand3::count_roots(&one.root.cube(), &two.root.cube(), &mut self.counts);
+        }
+        let mut touched = None;
+        for (a, some) in maps.iter().enumerate() {
+            for (b, more) in maps.iter().chain(others).enumerate() {
+                let pairs = if a == b {
+                    &mut self.counts.pairs
+                } else {
+                    &mut self.counts.pairs_of_two_maps
+                };
+                touched = touched.or(touching(&some.leaves, &more.leaves, pairs));
+                if b >= maps.len() {
+                    touched = touched.or(touching(&more.leaves, &some.leaves, pairs));
+                }
+            }
+        }
+        if let Some(pair) = touched {
+            note(&mut self.touch, plan, format!("{pair:?}"));
+        }
+    }
+
+    /// Prints what broke the demand, and what was covered.
+    pub fn print(&self) {
+        for told in self.point.iter().chain(&self.touch) {
+            println!("DEMAND 3: {told}");
+        }
+        let counts = &self.counts;
+        let [white, black, terminal, complement, gray] = counts.by_class;
+        println!("    {} maps with {} leaves", counts.maps, counts.leaves);
+        let [overlapping, adjacent, apart] = counts.roots;
+        println!(
+            "    two roots of a sheet: {overlapping} overlapping, {adjacent} side by side, {apart} apart; \
+             {} not aligned",
+            counts.not_aligned
+        );
+        println!(
+            "    points in closed leaves: {white} white, {black} black, {terminal} terminal, \
+             {complement} terminal by complement, {gray} gray"
+        );
+    }
+}
+
+/// Keeps the first thing that is wrong with the maps of a sheet.
+pub fn note(first: &mut Option<String>, plan: &Plan, wrong: String) {
+    first.get_or_insert_with(|| format!("sheet {}: {wrong}", hex(&plan.bytes())));
+}
+
 /// Tests the demand on `sheets` sheets, each with two maps, on two servers.
 pub fn run(setup: &Setup, sheets: u64) -> Result<Found, String> {
     let hold = |number, server: &mut Server, found: &mut Found| {
         let mut random = Random::of_case(setup.seed, "demand 3", number);
-        one_sheet(&mut random, server, found).map(|()| true)
+        let (plan, maps) = two_maps(&mut random, server)?;
+        for map in &maps {
+            found.points(&plan, map, &mut random);
+        }
+        found.touches(&plan, &maps, &[]);
+        Ok(true)
     };
     let [mut all, other] = on_two_servers(setup, sheets, hold)?;
-    all.counts.add(&other.counts);
-    all.point = all.point.or(other.point);
-    all.touch = all.touch.or(other.touch);
+    all.add(other);
     Ok(all)
-}
-
-/// Tests the demand on the two maps of one sheet.
-fn one_sheet(random: &mut Random, server: &mut Server, found: &mut Found) -> Result<(), String> {
-    let (plan, maps) = two_maps(random, server)?;
-    let told = |wrong: String| format!("sheet {}: {wrong}", hex(&plan.bytes()));
-    for map in &maps {
-        found.counts.maps += 1;
-        found.counts.leaves += map.leaves.len() as u64;
-        let points = points_of_map(map, random);
-        let wrong = wrong_leaf(&plan.sheet(), &map.leaves, &points, &mut found.counts);
-        let wrong = wrong.map(|wrong| told(format!("{:?}, {wrong:?}", map.root)));
-        found.point = found.point.take().or(wrong);
-    }
-    let touched = two_that_touch(&maps, &mut found.counts);
-    let touched = touched.map(|pair| told(format!("{pair:?}")));
-    found.touch = found.touch.take().or(touched);
-    Ok(())
 }
 
 /// A sheet and its maps over roots that overlap, lie side by side or differ in size: two maps, if neither
 /// is refused.
 fn two_maps(random: &mut Random, server: &mut Server) -> Result<(Plan, Vec<Built>), String> {
     let mut plan = demand3::sheet(random);
-    let leaves = demand3::depth(&mut plan, random);
+    let leaves = demand3::depth(&mut plan, &colour::colour, random);
     let first = built(&plan, leaves, server)?;
     plan.root = demand3::other_root(&plan.root, random);
-    let leaves = demand3::depth(&mut plan, random);
+    let leaves = demand3::depth(&mut plan, &colour::colour, random);
     let second = built(&plan, leaves, server)?;
     Ok((plan, first.into_iter().chain(second).collect()))
 }
 
-/// A white and a black leaf that touch, in one of the maps or in two.
-fn two_that_touch(maps: &[Built], counts: &mut Counts) -> Option<(Cube, Cube)> {
-    if let [one, two] = maps {
-        demand3::count_roots(&one.root.cube(), &two.root.cube(), counts);
-    }
-    let mut found = None;
-    for (a, some) in maps.iter().enumerate() {
-        for (b, others) in maps.iter().enumerate() {
-            let pairs = if a == b {
-                &mut counts.pairs
-            } else {
-                &mut counts.pairs_of_two_maps
-            };
-            found = found.or(touching(&some.leaves, &others.leaves, pairs));
-        }
-    }
-    found
-}
-
-/// Points of the root and of some leaves.
-fn points_of_map(map: &Built, random: &mut Random) -> Vec<Point> {
-    let mut points = points_of(&map.root.cube(), random);
-    for _ in 0..LEAVES_TRIED {
-        let (cube, _) = map.leaves[random.below(map.leaves.len())];
-        points.extend(points_of(&cube, random));
-    }
-    points
-}
-
-/// Turns over one leaf in each of some maps: white to black, black to white, a face to its complement.
-/// Returns how many were turned over, and how many of these the points noticed.
+/// Turns over one leaf in each of some maps. Returns how many were turned over, and how many of these the points
+/// noticed.
 pub fn turned_over(setup: &Setup, sheets: u64) -> Result<(u64, u64), String> {
     let mut server = Server::named(&setup.library)?;
     let (mut turned, mut noticed) = (0, 0);
     for number in 0..sheets {
         let mut random = Random::of_case(setup.seed, "turned over", number);
         let mut plan = demand3::sheet(&mut random);
-        let leaves = demand3::depth(&mut plan, &mut random);
+        let leaves = demand3::depth(&mut plan, &colour::colour, &mut random);
         let Some(mut map) = built(&plan, leaves, &mut server)? else {
             continue;
         };
-        let at = random.below(map.leaves.len());
-        let (cube, leaf) = &mut map.leaves[at];
-        let Some(class) = [1, 0, 3, 2].get(usize::from(leaf.colour.class)) else {
+        let Some(cube) = map.turn_over(&mut random) else {
             continue;
         };
-        leaf.colour.class = *class;
         turned += 1;
-        let points = points_of(cube, &mut random);
-        let wrong = wrong_leaf(&plan.sheet(), &map.leaves, &points, &mut Counts::default());
-        noticed += u64::from(wrong.is_some());
+        noticed += u64::from(is_noticed(&plan, &map, &cube, &mut random));
     }
     Ok((turned, noticed))
+}
+
+/// Whether points of a cube show that a map is wrong.
+pub fn is_noticed(plan: &Plan, map: &Built, cube: &Cube, random: &mut Random) -> bool {
+    let points = points_of(cube, random);
+    wrong_leaf(&plan.sheet(), &map.leaves, &points, &mut Counts::default()).is_some()
 }
 
 /// The leaves of a sheet's map by a wrong colouring, over 0 to 4, at a depth.

@@ -6,6 +6,7 @@
 //!        against case GROUP NUMBER [seed S] [library ..]          one case of a group
 
 mod alone;
+mod before_03;
 mod builds;
 mod case;
 mod checks;
@@ -37,6 +38,7 @@ mod shrink;
 mod slips;
 mod spans;
 mod tally;
+mod wrong_before;
 mod wrong_builds;
 mod wrong_ends;
 mod wrong_lookups;

@@ -2,6 +2,7 @@
 
 use crate::random::Random;
 use paper::bounds;
+use paper::build::Colouring;
 use paper::colour::{self, GRAY};
 use paper::root::{Cube, Root, FURTHEST};
 use paper::sheet::{Record, Sheet};
@@ -56,10 +57,21 @@ pub fn root(random: &mut Random, k: u8) -> Root {
 
 /// The greatest depth up to the wanted one whose map has at most `most_leaves` leaves, and the number of its leaves.
 pub fn deepest(sheet: &Sheet, root: &Root, wanted: u8, most_leaves: usize) -> (u8, usize) {
+    deepest_by(&colour::colour, sheet, root, wanted, most_leaves)
+}
+
+/// The same of the map by a given colouring.
+pub fn deepest_by(
+    colouring: &Colouring,
+    sheet: &Sheet,
+    root: &Root,
+    wanted: u8,
+    most_leaves: usize,
+) -> (u8, usize) {
     if bounds::within_limit(sheet, root).is_err() {
         return (wanted, 0);
     }
-    let is_gray = |cube: &Cube| colour::colour(sheet, cube).class == GRAY;
+    let is_gray = |cube: &Cube| colouring(sheet, cube).class == GRAY;
     let mut grays = vec![root.cube()];
     grays.retain(is_gray);
     let mut leaves = 1;

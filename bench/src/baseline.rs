@@ -195,3 +195,44 @@ fn the_end_past_the_limit() {
         assert_eq!(crate::library::lookup(&sheet, &gray, point), Err(refused));
     }
 }
+
+/// What both (kind 17) and either (kind 18) of faces give, by the plain program and by the library: the class and face of the only leaf.
+#[test]
+fn a_face_mentioned_twice() {
+    let root = Root {
+        corner: [0, 0, 0],
+        k: 1,
+        d: 0,
+    };
+    let mut s = crate::drawing::Sheet::default();
+    let (x, y) = (s.coordinate(0), s.coordinate(1));
+    let (f, g) = (s.at_most(x, 1), s.at_most(y, 1));
+    let (other_f, other_g) = (s.complement(f), s.complement(g));
+    for (kind, p, q, leaf) in [
+        (17, f, f, [2, f]),
+        (17, other_f, other_f, [3, f]),
+        (17, f, other_f, [0, 0]),
+        (17, other_f, f, [0, 0]),
+        (17, f, g, [4, 0]),
+        (17, f, other_g, [4, 0]),
+        (17, other_g, other_f, [4, 0]),
+        (18, g, g, [2, g]),
+        (18, other_g, other_g, [3, g]),
+        (18, g, other_g, [1, 0]),
+        (18, other_g, g, [1, 0]),
+        (18, g, f, [4, 0]),
+        (18, other_f, g, [4, 0]),
+        (18, other_f, other_g, [4, 0]),
+    ] {
+        let mut s = s.clone();
+        s.record(kind, &[p, q]);
+        let sheet = s.finish();
+        let mut map = [0; 22];
+        assert_eq!(crate::library::build(&sheet, &root, &mut map), Ok(22));
+        assert_eq!(map[20..], leaf);
+        assert_eq!(
+            build(&sheet, &root).map(|built| built.bytes),
+            Ok(map.to_vec())
+        );
+    }
+}

@@ -91,7 +91,7 @@ impl State {
         match (self, other) {
             (Out, _) | (_, Out) => Out,
             (In, state) | (state, In) => state,
-            _ => Mixed,
+            _ => self.of_faces(other, Out),
         }
     }
 
@@ -99,6 +99,16 @@ impl State {
         match (self, other) {
             (In, _) | (_, In) => In,
             (Out, state) | (state, Out) => state,
+            _ => self.of_faces(other, In),
+        }
+    }
+
+    /// Both or either where neither state decides or is passed on: a face mentioned twice is itself, with its complement it is decided, and
+    /// different faces are Mixed.
+    fn of_faces(self, other: State, decided: State) -> State {
+        match (self, other) {
+            (Single(f), Single(g)) | (Comp(f), Comp(g)) if f == g => self,
+            (Single(f), Comp(g)) | (Comp(f), Single(g)) if f == g => decided,
             _ => Mixed,
         }
     }

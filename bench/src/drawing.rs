@@ -2,7 +2,7 @@
 use std::collections::HashMap;
 
 /// Records under construction. Each call returns a record's number, and reuses an equal record that is already there.
-#[derive(Default)]
+#[derive(Clone, Default)]
 pub struct Sheet {
     bytes: Vec<u8>,
     numbers: HashMap<Vec<u8>, u8>,

@@ -21,9 +21,10 @@
 
    A later version may add calls and codes, and may drop a code that no input brings about. A code keeps its meaning, and a number that was
    dropped is not used again. So treat a code that you do not know as a refusal. While the major number is 0, a new minor number may also
-   change a call, or the number that comes with a code: CHANGELOG.md says what to do. */
+   change a call, the number that comes with a code, or the map that zone_build makes of a sheet: CHANGELOG.md says what to do. A map that an
+   earlier version built still opens, and what a lookup answers by it is still true. */
 #define ZONE_VERSION_MAJOR 0
-#define ZONE_VERSION_MINOR 4
+#define ZONE_VERSION_MINOR 5
 #define ZONE_VERSION (ZONE_VERSION_MAJOR * 1000 + ZONE_VERSION_MINOR)
 
 #ifdef __cplusplus

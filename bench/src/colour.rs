@@ -106,10 +106,12 @@ impl State {
     /// Both or either where neither state decides or is passed on: a face mentioned twice is itself, with its complement it is decided, and
     /// different faces are Mixed.
     fn of_faces(self, other: State, decided: State) -> State {
-        match (self, other) {
-            (Single(f), Single(g)) | (Comp(f), Comp(g)) if f == g => self,
-            (Single(f), Comp(g)) | (Comp(f), Single(g)) if f == g => decided,
-            _ => Mixed,
+        if self == other {
+            self
+        } else if self == other.complement() {
+            decided
+        } else {
+            Mixed
         }
     }
 

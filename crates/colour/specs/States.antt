@@ -62,17 +62,17 @@ complementOf Mixed = Mixed
 unfoldable pub otherwiseOf : State → State → State → State
 otherwiseOf decided s t = cond (isSame s t) s (cond (isSame s (complementOf t)) decided Mixed)
 
--- The rules are over `otherwise`, which is that rule today. Before request 2026-03 it gave Mixed for all states, and such maps are still about.
+-- The rules that follow are over `otherwise`, which is that rule today. Before request 2026-03 it gave Mixed of any two states, and maps of that time are in use.
 module _ (otherwise : State → State → State → State) where
-  -- Both and either join two states by one rule: `decided` if either decides; otherwise if one leaves it to the other, the other's state; otherwise as above.
+  -- Both and either join two states by one rule: `decided` if either decides; otherwise if one leaves it to the other, the other's state; otherwise `otherwise`.
   unfoldable pub joinedBy : (State → Bool) → State → (State → Bool) → State → State → State
   joinedBy decides decided leaves s t = cond (decides s || decides t) decided (cond (leaves s) t (cond (leaves t) s (otherwise decided s t)))
 
-  -- both: Out if either is Out; otherwise if one is In, the other's state; otherwise as above
+  -- both: Out if either is Out; otherwise if one is In, the other's state
   abbrev pub bothWith : State → State → State
   bothWith s t = joinedBy isOut Out isIn s t
 
-  -- either: In if either is In; otherwise if one is Out, the other's state; otherwise as above
+  -- either: In if either is In; otherwise if one is Out, the other's state
   abbrev pub eitherWith : State → State → State
   eitherWith s t = joinedBy isIn In isOut s t
 
@@ -91,12 +91,16 @@ module _ (otherwise : State → State → State → State) where
   stateWith n i s t (Either a b) = eitherWith s t
   stateWith n i s t (Complement a) = complementOf s
 
--- by today's rule
+-- both: Out if either is Out; otherwise if one is In, the other's state; otherwise of Single(f) with Single(f) it is Single(f), and likewise Comp(f); of Single(f)
+-- with Comp(f), in either order, Out; of any other two Mixed
 abbrev pub bothOf : State → State → State
 bothOf = bothWith otherwiseOf
 
+-- either: In if either is In; otherwise if one is Out, the other's state; otherwise of Single(f) with Single(f) it is Single(f), and likewise Comp(f); of
+-- Single(f) with Comp(f), in either order, In; of any other two Mixed
 abbrev pub eitherOf : State → State → State
 eitherOf = eitherWith otherwiseOf
 
+-- the state of record n, by these rules
 abbrev pub stateOf : ℕ → Interval → State → State → Record → State
 stateOf = stateWith otherwiseOf

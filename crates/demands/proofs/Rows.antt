@@ -19,7 +19,7 @@ use Rattle.zonemap.specs.StepRoom.{stepRoot, stepMap}
 use Rattle.colour.specs.States.{faceState}
 use Rattle.colour.proofs.Rows.{product-row, square-row, unrelated-row}
 use Rattle.tree.specs.Solid.{solidState, leavesBelow}
-use Rattle.building.specs.Build.{mapBy, builtMap, storedOf, buildOf}
+use Rattle.building.specs.Build.{Outcome, mapBy, builtMap, storedOf}
 use Rattle.tree.proofs.Rows.{depth-2, one-face}
 use Rattle.building.proofs.Rows.{build-0, build-1, build-2}
 use Rattle.lookup.proofs.Rows.{by-face-5, inside-2-0-0, outside-3-0-0, undecided-2-2-0, not-in-root-4-0-0}
@@ -30,13 +30,13 @@ use Rattle.demands.specs.Rows.{AllHold, elevenRows}
 use Rattle.demands.proofs.Outcomes.{made}
 
 -- a map of n bytes is stored in a buffer that has room for it, and refused by 8 if there is none
-module _ (sheet : List ℕ) (root : Root) (map out : List ℕ) (n : ℕ) (e : buildOf sheet root out ≡ storedOf map out) (size : length map ≡ n) where
-  pub stores : n ≤ length out → zoneBuildOf sheet root out ≡ zoneOutcome (reply 0 n) (map ++ drop n out)
-  unfolding zoneBuildOf storedOf
+module _ (o : Outcome) (map out : List ℕ) (n : ℕ) (e : o ≡ storedOf map out) (size : length map ≡ n) where
+  pub stores : n ≤ length out → outcomeByNumber o ≡ zoneOutcome (reply 0 n) (map ++ drop n out)
+  unfolding storedOf
   stores h = ap outcomeByNumber e ∙ rw (size, le-ltb (length out) n h)
 
-  pub refuses : length out < n → zoneBuildOf sheet root out ≡ zoneOutcome (reply 8 n) out
-  unfolding zoneBuildOf storedOf
+  pub refuses : length out < n → outcomeByNumber o ≡ zoneOutcome (reply 8 n) out
+  unfolding storedOf
   refuses h = ap outcomeByNumber e ∙ rw (size, lt-ltb (length out) n h)
 
 -- the reply of a lookup by number
@@ -57,13 +57,13 @@ module _ (sheet : List ℕ) (root : Root) (out : List ℕ) (e : zoneBuildOf shee
       λ i. zoneOutcome (reply (e i) (number i)) (bytes i)
 
 pub rows : AllHold elevenRows
-unfolding AllHold leavesIn leafIn faceState mapBy
+unfolding AllHold zoneBuildOf leavesIn leafIn faceState mapBy
 rows = (
-  λ out h. stores stepSheet (stepRoot 0) _ out 22 (build-0 out) (map-length (stepRoot 0) _) h,
+  λ out h. stores _ _ out 22 (build-0 out) (map-length (stepRoot 0) _) h,
   (
-    (λ out h. stores stepSheet (stepRoot 1) stepMap out 43 (build-1 out) refl h, refl, λ out h. refuses stepSheet (stepRoot 1) stepMap out 43 (build-1 out) refl (omega arith)),
+    (λ out h. stores _ stepMap out 43 (build-1 out) refl h, refl, λ out h. refuses _ stepMap out 43 (build-1 out) refl (omega arith)),
     (
-      λ out h. stores stepSheet (stepRoot 2) _ out 85 (build-2 out ∙ ap (λ (ls : List Leaf). storedOf (mapOf (stepRoot 2) ls) out) depth-2) (map-length (stepRoot 2) _) h,
+      λ out h. stores _ _ out 85 (build-2 out ∙ ap (λ (ls : List Leaf). storedOf (mapOf (stepRoot 2) ls) out) depth-2) (map-length (stepRoot 2) _) h,
       (
         (looks-up _ _ inside-2-0-0, by-face-5),
         (

@@ -32,7 +32,7 @@ use Rattle.demands.proofs.Before03.{gray-before, before-good, truthful-
 
 -- ---- the leaf of a map that holds a point
 module _ (sheet map : List ℕ) (p : Point) (c : CanLookUp sheet map p) where
-  pub by : ByTheLeaf sheet map p
+  abbrev by : ByTheLeaf sheet map p
   by = by-the-leaf sheet map p c
 
   abbrev number : ℕ
@@ -52,14 +52,14 @@ module _ (sheet map : List ℕ) (p : Point) (c : CanLookUp sheet map p) where
       (c .opens .good number (by .holds .among) .gray gray)
 
 -- ---- the new map: if the leaf that holds a point is gray, so are all cubes of the tree that hold the point
-module _ (sheet new : List ℕ) (b : Built sheet new) (p : Point) (c : CanLookUp sheet new p) (gray : nthLeaf new (by sheet new p c .number) .class ≡ 4) where
+module _ (sheet new : List ℕ) (b : Built sheet new) (p : Point) (c : CanLookUp sheet new p) (gray : nthLeaf new (by-the-leaf sheet new p c .number) .class ≡ 4) where
   abbrev i : ℕ
-  i = by sheet new p c .number
+  i = by-the-leaf sheet new p c .number
 
   gray-around : (level : ℕ) → level ≤ rootOf new .d → isGray (solidState (recordsOf sheet)) (cubeAround (rootOf new) (placeOf (rootOf new) p) level) ≡ true
   unfolding zoneBuildOf
   gray-around level h =
-      let among = by sheet new p c .holds .among in
+      let among = by-the-leaf sheet new p c .holds .among in
       let last = c .opens .good i among .gray gray in
       ⊎-elim
       (λ (same : level ≡ rootOf new .d).
@@ -69,11 +69,11 @@ module _ (sheet new : List ℕ) (b : Built sheet new) (p : Point) (c : CanLookUp
 
 -- ---- the old map is gray there too
 module _ (sheet old new : List ℕ) (b : BuiltBefore sheet old) (n : Built sheet new) (same : rootOf old ≡ rootOf new) (p : Point) where
-  old-gray : (c : CanLookUp sheet old p) (d : CanLookUp sheet new p) → nthLeaf new (by sheet new p d .number) .class ≡ 4 → nthLeaf old (by sheet old p c .number) .class ≡ 4
+  old-gray : (c : CanLookUp sheet old p) (d : CanLookUp sheet new p) → nthLeaf new (by-the-leaf sheet new p d .number) .class ≡ 4 → nthLeaf old (by-the-leaf sheet old p c .number) .class ≡ 4
   unfolding zoneBuildBefore
   old-gray c d gray =
-      let j : ℕ = by sheet old p c .number in
-      let among = by sheet old p c .holds .among in
+      let j : ℕ = by-the-leaf sheet old p c .number in
+      let among = by-the-leaf sheet old p c .holds .among in
       let now = gray-around sheet new n p d gray (nthLeaf old j .level) (rw same at (c .opens .good j among .level)) in
       let there : isGray (solidState (recordsOf sheet)) (nthCube old j) ≡ true = rw (← same, around sheet old p c) at now in
       ap (λ (l : Leaf). l .class) (leaf-there solidBefore before-good sheet old b j among) ∙ gray-class _ _ (gray-before (recordsOf sheet) (nthCube old j) there)
@@ -82,11 +82,11 @@ module _ (sheet old new : List ℕ) (b : BuiltBefore sheet old) (n : Built sheet
   still-answered inside told =
       let c = looks-up sheet old p .only (ap (λ (r : ZoneReply). r .code) told) in
       let d = can-look-up sheet new n p (rw same at (c .inside)) in
-      let t = by sheet new p d in
+      let t = by-the-leaf sheet new p d in
       let satisfied : Bool = holdsAt (recordsOf sheet) (nthLeaf new (t .number) .face) (whole p) in
       let is = truth sheet old (truthful-before sheet old b) p inside told in
       let alike : (side : Bool) → zoneLookupOf sheet new p ≡ reply 0 (cond side 1 0) → zoneLookupOf sheet new p ≡ reply 0 (cond inside 1 0) =
       λ side e. e ∙ ap (λ (s : Bool). reply 0 (cond s 1 0)) (sym (truth sheet new (truthful sheet new n) p side e) ∙ is) in
       by-class (nthLeaf new (t .number) .class) (d .opens .good (t .number) (t .holds .among) .class)
       (λ k. alike false (t .white k)) (λ k. alike true (t .black k)) (λ k. alike satisfied (t .terminal k)) (λ k. alike (not satisfied) (t .complement k))
-      (λ k. absurd (no-side inside (sym (by sheet old p c .gray (old-gray c d k)) ∙ told)))
+      (λ k. absurd (no-side inside (sym (by-the-leaf sheet old p c .gray (old-gray c d k)) ∙ told)))

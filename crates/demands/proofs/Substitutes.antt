@@ -35,7 +35,8 @@ short = replicate 42 0
 
 module _ (r : ZoneReply) (out : List ℕ) (e : zoneOutcome r out ≡ zoneBuildOf stepSheet (stepRoot 1) room) where
   told : zoneOutcome r out ≡ zoneOutcome (reply 0 43) stepMap
-  told = e ∙ stores stepSheet (stepRoot 1) stepMap room 43 (build-1 room) refl (omega arith)
+  unfolding zoneBuildOf
+  told = e ∙ stores _ stepMap room 43 (build-1 room) refl (omega arith)
 
   -- one that refuses always
   pub not-always-refused : r .code ≡ 0
@@ -64,7 +65,8 @@ module _ (r : ZoneReply) (out : List ℕ) (e : zoneOutcome r out ≡ zoneBuildOf
 
 module _ (r : ZoneReply) (out : List ℕ) (e : zoneOutcome r out ≡ zoneBuildOf stepSheet (stepRoot 1) short) where
   told-short : zoneOutcome r out ≡ zoneOutcome (reply 8 43) short
-  told-short = e ∙ refuses stepSheet (stepRoot 1) stepMap short 43 (build-1 short) refl (omega arith)
+  unfolding zoneBuildOf
+  told-short = e ∙ refuses _ stepMap short 43 (build-1 short) refl (omega arith)
 
   -- one that invents the length in reply 8
   pub no-other-need : r ≡ reply 8 43

@@ -17,6 +17,7 @@ use Rattle.interval.specs.declared.Bounded.the-variants.{Within}
 use Rattle.interval.specs.Rules.{only, sum, difference, product, square}
 use Rattle.interval.specs.Limit.{SmallEnds, boundedOf}
 use Rattle.interval.proofs.Facts.{ends-within, bounded-within}
+use Rattle.sheet.specs.declared.Comparison.{Comparison}
 use Rattle.sheet.specs.declared.Record.{Record}
 use Rattle.sheet.specs.declared.Record.the-variants.{Constant, Sum, Difference, Product, Square, Face, Both, Either, Complement}
 use Rattle.sheet.specs.Operands.{firstOf, secondOf}
@@ -85,9 +86,9 @@ module _ (low high : List ℤ) (classes faces : List ℕ) (n : ℕ) (r : Record)
   abbrev due : State
   due = stateOf n (heldAt low high (firstOf r)) (stated (firstOf r)) (stated (secondOf r)) r
 
-  pub face-arm : (a : ℕ) (i : Interval) (k : State) → r ≡ Face a → i ≡ heldAt low high a → k ≡ faceState i n → k ≡ due
+  pub face-arm : (by : Comparison) (a : ℕ) (i : Interval) (k : State) → r ≡ Face by a → i ≡ heldAt low high a → k ≡ faceState by i n → k ≡ due
   unfolding stateWith
-  face-arm a i k e f h = rw (e, ← f) h
+  face-arm by a i k e f h = rw (e, ← f) h
 
   pub both-arm : (a c : ℕ) (s t k : State) → r ≡ Both a c → s ≡ stated a → t ≡ stated c → k ≡ bothOf s t → k ≡ due
   unfolding stateWith

@@ -49,7 +49,7 @@ module _ (q : Cube) (point : q .side ≡ 0) where
   step-one es fs (Difference a b) p = difference-one _ _ (p .each a) (p .each b)
   step-one es fs (Product a b) p = product-one _ _ (p .each a) (p .each b)
   step-one es fs (Square a) p = square-one _ (p .each a)
-  step-one es fs (Face a) p = (pos 0, refl)
+  step-one es fs (Face by a) p = (pos 0, refl)
   step-one es fs (Both a b) p = (pos 0, refl)
   step-one es fs (Either a b) p = (pos 0, refl)
   step-one es fs (Complement a) p = (pos 0, refl)

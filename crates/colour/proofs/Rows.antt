@@ -4,14 +4,15 @@ use mathlib.Core.List.{List, [], _∷_}
 use lib.IntN.{pos, negsuc}
 use lib.ListN.{getD}
 use Rattle.integers.specs.Least.{lesserOf, greaterOf}
-use Rattle.interval.specs.Rules.{from, difference, span, product, square}
+use Rattle.interval.specs.Rules.{from, only, difference, span, product, square}
+use Rattle.sheet.specs.declared.Comparison.the-variants.{AtMost, LessThan}
 use Rattle.sheet.specs.declared.Record.{Record}
 use Rattle.sheet.specs.declared.Record.the-variants.{Constant, X, Difference, Product, Square}
 use Rattle.sheet.specs.Along.{along, onward}
 use Rattle.cube.specs.declared.Cube.{Cube}
 use Rattle.colour.specs.declared.State.the-variants.{In, Out, Single, Comp, Mixed}
 use Rattle.colour.specs.Bounds.{across, boundsOf}
-use Rattle.colour.specs.States.{isSame, faceState, complementOf, otherwiseOf, joinedBy, bothOf, eitherOf, stateWith}
+use Rattle.colour.specs.States.{isSame, meets, faceState, complementOf, otherwiseOf, joinedBy, bothOf, eitherOf, stateWith}
 use Rattle.colour.specs.Entries.{blank, entryWith, entries}
 
 -- x(10-x) over x from 4 to 6: [16, 36]
@@ -37,18 +38,24 @@ unfolding along onward entryWith boundsOf stateWith across square product span l
 unrelated-row = refl
 
 -- Bounds [-2, 0]: In. Bounds [0, 2]: Single.
-pub in-row : faceState (from (negsuc 1) (pos 0)) 5 ≡ In
-unfolding faceState
+pub in-row : faceState AtMost (from (negsuc 1) (pos 0)) 5 ≡ In
+unfolding meets faceState
 in-row = refl
 
-pub single-row : faceState (from (pos 0) (pos 2)) 5 ≡ Single 5
-unfolding faceState
+pub single-row : faceState AtMost (from (pos 0) (pos 2)) 5 ≡ Single 5
+unfolding meets faceState
 single-row = refl
 
 -- and just above 0: Out
-pub out-row : faceState (from (pos 1) (pos 2)) 5 ≡ Out
-unfolding faceState
+pub out-row : faceState AtMost (from (pos 1) (pos 2)) 5 ≡ Out
+unfolding meets faceState
 out-row = refl
+
+-- In a version 2 sheet, with bounds [-2, 0], [0, 0], [0, 2] and [-2, -1]: Single, Out, Out and In.
+pub strict-rows : faceState LessThan (from (negsuc 1) (pos 0)) 5 ∷ faceState LessThan (only (pos 0)) 5 ∷ faceState LessThan (from (pos 0) (pos 2)) 5 ∷ faceState LessThan (from (negsuc 1) (negsuc 0)) 5 ∷ []
+    ≡ Single 5 ∷ Out ∷ Out ∷ In ∷ []
+unfolding meets faceState
+strict-rows = refl
 
 -- The faces left in the cube count, not those of the whole sheet: a face that holds all over the cube leaves the other alone.
 pub left-row : bothOf In (Single 6) ≡ Single 6

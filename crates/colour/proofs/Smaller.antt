@@ -40,7 +40,7 @@ module _ (q outer : Cube) (h : CubeInside q outer) where
   step-inside es fs (Difference a b) p = difference-inside (p .each a) (p .each b)
   step-inside es fs (Product a b) p = product-inside (p .each a) (p .each b)
   step-inside es fs (Square a) p = square-inside (p .each a)
-  step-inside es fs (Face a) p = only-inside (pos 0)
+  step-inside es fs (Face by a) p = only-inside (pos 0)
   step-inside es fs (Both a b) p = only-inside (pos 0)
   step-inside es fs (Either a b) p = only-inside (pos 0)
   step-inside es fs (Complement a) p = only-inside (pos 0)

@@ -1,10 +1,12 @@
 -- Colour of a cube: the state of one logical record, and the class and face of a state.
 use Prim.Native.Nat.{ℕ}
-use mathlib.Core.Bool.{Bool, true, false, cond, _&&_, _||_}
+use mathlib.Core.Bool.{Bool, true, false, cond, not, _&&_, _||_}
 use lib.Dec.{eqb}
-use lib.IntN.{pos}
+use lib.IntN.{ℤ, pos}
 use lib.Signed.{leZ, ltZ}
 use Rattle.interval.specs.declared.Interval.{Interval}
+use Rattle.sheet.specs.declared.Comparison.{Comparison}
+use Rattle.sheet.specs.declared.Comparison.the-variants.{AtMost, LessThan}
 use Rattle.sheet.specs.declared.Record.{Record}
 use Rattle.sheet.specs.declared.Record.the-variants.{Constant, X, Y, Z, Sum, Difference, Product, Square, Face, Both, Either, Complement}
 use Rattle.colour.specs.declared.State.{State}
@@ -44,9 +46,15 @@ faceOf Mixed = 0
 unfoldable pub isSame : State → State → Bool
 isSame s t = eqb (classOf s) (classOf t) && eqb (faceOf s) (faceOf t)
 
--- face with bounds [a,b]: In if b <= 0; Out if a > 0; else Single(that face)
-unfoldable pub faceState : Interval → ℕ → State
-faceState i f = cond (leZ (i .high) (pos 0)) In (cond (ltZ (pos 0) (i .low)) Out (Single f))
+-- Whether a number meets a face's comparison with 0. (The two versions of a sheet differ in this alone.)
+unfoldable pub meets : Comparison → ℤ → Bool
+meets AtMost v = leZ v (pos 0)
+meets LessThan v = ltZ v (pos 0)
+
+-- Face with bounds [a,b]: In if b meets its comparison; Out if a does not; else Single(that face). So in version 1 it is In if b <= 0 and Out if a > 0; in version
+-- 2, by request 2026-07, "In if b < 0, Out if a >= 0, otherwise Single".
+unfoldable pub faceState : Comparison → Interval → ℕ → State
+faceState by i f = cond (meets by (i .high)) In (cond (not (meets by (i .low))) Out (Single f))
 
 -- complement: In and Out change places; Single(f) and Comp(f) change places; Mixed stays
 abbrev pub complementOf : State → State
@@ -86,7 +94,7 @@ module _ (otherwise : State → State → State → State) where
   stateWith n i s t (Difference a b) = Mixed
   stateWith n i s t (Product a b) = Mixed
   stateWith n i s t (Square a) = Mixed
-  stateWith n i s t (Face a) = faceState i n
+  stateWith n i s t (Face by a) = faceState by i n
   stateWith n i s t (Both a b) = bothWith s t
   stateWith n i s t (Either a b) = eitherWith s t
   stateWith n i s t (Complement a) = complementOf s

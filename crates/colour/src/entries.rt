@@ -56,7 +56,7 @@ pub fn bounds<'a>(r: Record, q: Cube, low: &'a [i64], high: &'a [i64]) -> Bounde
         Record::Difference(a, b) => held_at(low, high, a).difference(held_at(low, high, b)),
         Record::Product(a, b) => held_at(low, high, a).product(held_at(low, high, b)),
         Record::Square(a) => held_at(low, high, a).square(),
-        Record::Face(_) => Bounded::Within(Interval { low: 0, high: 0 }),
+        Record::Face(_, _) => Bounded::Within(Interval { low: 0, high: 0 }),
         Record::Both(_, _) => Bounded::Within(Interval { low: 0, high: 0 }),
         Record::Either(_, _) => Bounded::Within(Interval { low: 0, high: 0 }),
         Record::Complement(_) => Bounded::Within(Interval { low: 0, high: 0 }),
@@ -84,7 +84,7 @@ pub fn state<'a>(
         Record::Difference(_, _) => State::Mixed,
         Record::Product(_, _) => State::Mixed,
         Record::Square(_) => State::Mixed,
-        Record::Face(a) => states::face_state(held_at(low, high, a), n),
+        Record::Face(by, a) => states::face_state(by, held_at(low, high, a), n),
         Record::Both(a, b) => {
             states::state_at(classes, faces, a).both(states::state_at(classes, faces, b))
         }

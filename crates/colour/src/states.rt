@@ -2,22 +2,33 @@
 
 ghost use mathlib.Core.Path.{_≡_};
 ghost use lib.ListN.{length, getD};
-ghost use Rattle.colour.specs.States.{isIn, isOut, isSame, faceState, complementOf, otherwiseOf, bothOf, eitherOf, classOf, faceOf};
+ghost use Rattle.colour.specs.States.{isIn, isOut, isSame, meets, faceState, complementOf, otherwiseOf, bothOf, eitherOf, classOf, faceOf};
 ghost use Rattle.colour.specs.Held.{stateBy};
 use crate::State;
 use interval::Interval;
+use sheet::Comparison;
 
-// The state of face f, coloured by these bounds.
-pub fn face_state(bounds: Interval, f: u8) -> State
-    ensures { λ r. ⌜ r ≡ faceState bounds f ⌝ }
+// Whether a face that compares so holds where its operand is v.
+fn meets(by: Comparison, v: i64) -> bool
+    ensures { λ r. ⌜ r ≡ meets by v ⌝ }
 {
-    if bounds.high <= 0 {
+    match by {
+        Comparison::AtMost => v <= 0,
+        Comparison::LessThan => v < 0,
+    }
+}
+
+// The state of face f, which compares so, coloured by these bounds.
+pub fn face_state(by: Comparison, bounds: Interval, f: u8) -> State
+    ensures { λ r. ⌜ r ≡ faceState by bounds f ⌝ }
+{
+    if meets(by, bounds.high) {
         return State::In;
     }
-    if 0 < bounds.low {
-        return State::Out;
+    if meets(by, bounds.low) {
+        return State::Single(f);
     }
-    State::Single(f)
+    State::Out
 }
 
 // The state of record a, whose class and face are in two lists.

@@ -56,7 +56,7 @@ fn record(r: sheet::Record) {
         sheet::Record::Difference(a, b) => operands(b" difference", a, b),
         sheet::Record::Product(a, b) => operands(b" product", a, b),
         sheet::Record::Square(a) => operand(b" square", a),
-        sheet::Record::Face(a) => operand(b" face", a),
+        sheet::Record::Face(by, a) => face(by, a),
         sheet::Record::Both(p, q) => operands(b" both", p, q),
         sheet::Record::Either(p, q) => operands(b" either", p, q),
         sheet::Record::Complement(p) => operand(b" complement", p),
@@ -70,6 +70,14 @@ fn kind(name: &[u8]) {
 fn constant(c: i32) {
     kind(b" constant");
     whole(c);
+}
+
+// A face of a version 2 sheet is strict: it excludes its own points.
+fn face(by: sheet::Comparison, a: u8) {
+    match by {
+        sheet::Comparison::AtMost => operand(b" face", a),
+        sheet::Comparison::LessThan => operand(b" strict face", a),
+    }
 }
 
 fn operand(name: &[u8], a: u8) {

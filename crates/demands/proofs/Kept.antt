@@ -1,5 +1,6 @@
 -- The three demands are kept.
 use Rattle.demands.specs.Demands.{Demands, Demand1, Demand2, Demand3}
+use Rattle.demands.specs.Versions.{Versions}
 use Rattle.demands.specs.Table.{Table}
 use Rattle.demands.proofs.Sheets.{checks, sheet-rows}
 use Rattle.demands.proofs.Opening.{opens, faults, open-row}
@@ -9,10 +10,11 @@ use Rattle.demands.proofs.Truthful.{truthful-opens, no-touch}
 use Rattle.demands.proofs.Soundness.{truthful}
 use Rattle.demands.proofs.Tiling.{tiling, covering}
 use Rattle.demands.proofs.Lookups.{looks-up, lookup-refused, lookup-rows, by-the-leaf, truth}
-use Rattle.demands.proofs.Rows.{rows}
+use Rattle.demands.proofs.Rows.{rows, strict-rows}
 use Rattle.demands.proofs.LimitRows.{limit-rows}
 use Rattle.demands.proofs.Row11.{reply-11}
 use Rattle.demands.proofs.SameFace.{same-face, mentioned-twice}
+use Rattle.demands.proofs.Versions.{version-1, version-2, same-reply, same-build, same-lookup, on-faces, may-touch}
 
 table : Table
 table = record {
@@ -51,6 +53,17 @@ demand-3 = record {
   truth = truth;
 }
 
+versions : Versions
+versions = record {
+  one = version-1;
+  two = version-2;
+  same-check = same-reply;
+  same-build = same-build;
+  same-lookup = same-lookup;
+  on-faces = on-faces;
+  may-touch = may-touch;
+}
+
 pub demands : Demands
 demands = record {
   first = demand-1;
@@ -61,4 +74,6 @@ demands = record {
   reply-11 = reply-11;
   same-face = same-face;
   mentioned-twice = mentioned-twice;
+  versions = versions;
+  strict-rows = strict-rows;
 }

@@ -2,6 +2,8 @@ pub mod Sheets
 pub mod Opening
 pub mod Outcomes
 pub mod Maps
+pub mod EqualRecords
+pub mod Faces
 pub mod AtPoint
 pub mod Truthful
 pub mod Soundness
@@ -13,6 +15,7 @@ pub mod Row11
 pub mod Before03
 pub mod StillAnswered
 pub mod SameFace
+pub mod Versions
 pub mod Kept
 pub mod Contracts
 pub mod Returns

@@ -26,7 +26,7 @@ use Rattle.cube.specs.declared.Cube.{Cube}
 use Rattle.cube.specs.Limits.{inLimits}
 use Rattle.cube.specs.Cubes.{rootCube, childOf}
 use Rattle.colour.specs.Bounds.{across, boundsOf}
-use Rattle.colour.specs.States.{isSame, faceState, otherwiseOf, joinedBy, stateWith}
+use Rattle.colour.specs.States.{isSame, meets, faceState, otherwiseOf, joinedBy, stateWith}
 use Rattle.colour.specs.Entries.{faceBounds, entryWith, entries, pastFrom, firstPast}
 use Rattle.colour.proofs.FirstPast.{past-cases}
 use Rattle.colour.proofs.Smaller.{bounds-inside, keep-smaller}
@@ -42,7 +42,7 @@ use Rattle.zone.specs.Replies.{byNumber, zoneCheckOf, zoneBuildOf, zoneOpenOf, 
 use Rattle.zone.proofs.ByNumber.{done-code}
 use Rattle.demands.specs.Terms.{Never}
 use Rattle.demands.specs.Row11.{pastInTree, buildWithRow11}
-use Rattle.demands.specs.Demands.{Reply11}
+use Rattle.demands.specs.Reply11.{Reply11}
 use Rattle.demands.proofs.Outcomes.{build-refused}
 
 -- ---- no cube below one that keeps the limit passes it
@@ -58,7 +58,7 @@ none-in-tree rs (suc left) q none =
 -- over the children in the high half of x, with the high end, and c^4 passes it everywhere, with the low end too. The solid is the complement of the step room, so the root is gray.
 past-rows : pastInTree (stepRecords ++ Constant (pos (2 ^ 29 + 1)) ∷ Square 8 ∷ Product 9 0 ∷ Square 9 ∷ Complement 7 ∷ []) 1 (rootCube (stepRoot 1))
     ≡ over 10 High ∷ over 11 Low ∷ over 10 High ∷ over 11 Low ∷ over 10 High ∷ over 11 Low ∷ over 10 High ∷ over 11 Low ∷ over 10 High ∷ []
-unfolding pastInTree upto isGray solidState firstPast pastFrom pastEnd isSmall along onward entryWith faceBounds boundsOf stateWith across sum difference span product square lesserOf greaterOf faceState joinedBy otherwiseOf isSame rootCube childOf
+unfolding pastInTree upto isGray solidState firstPast pastFrom pastEnd isSmall along onward entryWith faceBounds boundsOf stateWith across sum difference span product square lesserOf greaterOf meets faceState joinedBy otherwiseOf isSame rootCube childOf
 past-rows = refl
 
 -- ---- the same outcome

@@ -18,7 +18,7 @@ use Rattle.cube.specs.Cubes.{rootCube, childOf}
 use Rattle.colour.specs.declared.State.{State}
 use Rattle.colour.specs.declared.State.the-variants.{Single, Comp, Mixed}
 use Rattle.colour.specs.Bounds.{across, boundsOf}
-use Rattle.colour.specs.States.{classOf, faceOf, isSame, faceState, complementOf, otherwiseOf, joinedBy, bothOf, stateWith}
+use Rattle.colour.specs.States.{classOf, faceOf, isSame, meets, faceState, complementOf, otherwiseOf, joinedBy, bothOf, stateWith}
 use Rattle.colour.specs.Entries.{faceBounds, entryWith, pastFrom, firstPast}
 use Rattle.colour.proofs.Turned.{either-turned, both-self, both-complement, both-mixed}
 use Rattle.zonemap.specs.declared.Leaf.{Leaf}
@@ -28,10 +28,11 @@ use Rattle.tree.specs.Visit.{upto, visit}
 use Rattle.tree.specs.Solid.{solidState, isGray, leafOf, leavesBelow}
 use Rattle.building.specs.Build.{mapBy, overRootWith, buildWith}
 use Rattle.zone.specs.Replies.{reply, zoneOutcome, outcomeByNumber, zoneBuildOf}
-use Rattle.demands.specs.Terms.{GoodSheet, OfFace}
+use Rattle.demands.specs.Terms.{GoodSheet}
+use Rattle.demands.specs.SameFace.{OfFace}
 use Rattle.demands.specs.Rows.{AllHold, mentionedTwice}
 use Rattle.demands.specs.Before03.{solidBefore, zoneBuildBefore}
-use Rattle.demands.specs.Demands.{SameFace}
+use Rattle.demands.specs.SameFace.{SameFace}
 use Rattle.demands.proofs.Sheets.{good-check}
 use Rattle.demands.proofs.Truthful.{no-touch}
 use Rattle.demands.proofs.Soundness.{truthful}
@@ -93,7 +94,7 @@ gives over rs root leaves within none are sheet out good records room =
     stores (buildWith (λ rs. mapBy (over rs)) sheet root out) (mapOf root leaves) out _ (rw (good-check sheet good, records, within, none, are)) (map-length root leaves) room
 
 pub mentioned-twice : AllHold mentionedTwice
-unfolding AllHold zoneBuildOf zoneBuildBefore leavesBelow visit upto isGray leafOf solidState solidBefore along onward entryWith faceBounds boundsOf stateWith across difference faceState joinedBy otherwiseOf isSame rootCube childOf firstPast pastFrom pastEnd isSmall inLimits sizesFit axisFits
+unfolding AllHold zoneBuildOf zoneBuildBefore leavesBelow visit upto isGray leafOf solidState solidBefore along onward entryWith faceBounds boundsOf stateWith across difference meets faceState joinedBy otherwiseOf isSame rootCube childOf firstPast pastFrom pastEnd isSmall inLimits sizesFit axisFits
 mentioned-twice = (
   gives solidState _ _ _ refl refl refl,
   (gives solidBefore _ _ _ refl refl refl, (gives solidState _ _ _ refl refl refl, (gives solidState _ _ _ refl refl refl, (gives solidState _ _ _ refl refl refl, tt)))),

@@ -17,14 +17,13 @@ use Rattle.zonemap.specs.Map.{leafBytes, leavesBytes, cornerBytes, headerOf, ma
 use Rattle.zonemap.specs.Opening.{rootOf, leavesIn, leavesOf}
 use Rattle.zonemap.specs.Leaves.{nthLeaf}
 use Rattle.zonemap.specs.StepRoom.{stepRoot, stepMap}
-use Rattle.building.proofs.Rows.{build-1}
 use Rattle.zone.specs.declared.ZoneReply.{ZoneReply}
 use Rattle.zone.specs.Replies.{reply, ZoneOutcome, zoneOutcome, zoneBuildOf, zoneOpenOf}
 use Rattle.demands.specs.Terms.{Touches, Opens, Agrees, Truthful}
 use Rattle.demands.proofs.Opening.{opens}
 use Rattle.demands.proofs.Truthful.{truthful-opens}
 use Rattle.demands.proofs.Tiling.{covering}
-use Rattle.demands.proofs.Rows.{stores, refuses}
+use Rattle.demands.proofs.Rows.{stores, refuses, step-1}
 
 -- a buffer of 43 bytes holds the map, one of 42 does not
 abbrev room : List ℕ
@@ -36,7 +35,7 @@ short = replicate 42 0
 module _ (r : ZoneReply) (out : List ℕ) (e : zoneOutcome r out ≡ zoneBuildOf stepSheet (stepRoot 1) room) where
   told : zoneOutcome r out ≡ zoneOutcome (reply 0 43) stepMap
   unfolding zoneBuildOf
-  told = e ∙ stores _ stepMap room 43 (build-1 room) refl (omega arith)
+  told = e ∙ stores _ stepMap room 43 (step-1 room) refl (omega arith)
 
   -- one that refuses always
   pub not-always-refused : r .code ≡ 0
@@ -66,7 +65,7 @@ module _ (r : ZoneReply) (out : List ℕ) (e : zoneOutcome r out ≡ zoneBuildOf
 module _ (r : ZoneReply) (out : List ℕ) (e : zoneOutcome r out ≡ zoneBuildOf stepSheet (stepRoot 1) short) where
   told-short : zoneOutcome r out ≡ zoneOutcome (reply 8 43) short
   unfolding zoneBuildOf
-  told-short = e ∙ refuses _ stepMap short 43 (build-1 short) refl (omega arith)
+  told-short = e ∙ refuses _ stepMap short 43 (step-1 short) refl (omega arith)
 
   -- one that invents the length in reply 8
   pub no-other-need : r ≡ reply 8 43

@@ -3,32 +3,27 @@
 use mathlib.Core.Path.{_≡_}
 use mathlib.Core.Bool.{Bool, cond, not}
 use mathlib.Core.List.{List}
-use Prim.Native.Nat.{ℕ, _+_, _*_, _≤_, _<_}
+use Prim.Native.Nat.{ℕ, _+_, _*_, _<_}
 use lib.ListN.{length, drop}
-use Rattle.interval.specs.Claims.{Inside}
-use Rattle.sheet.specs.declared.Record.{Record}
 use Rattle.sheet.specs.Records.{recordsOf}
 use Rattle.cube.specs.declared.Root.{Root}
-use Rattle.cube.specs.declared.Cube.{Cube}
 use Rattle.cube.specs.declared.Point.{Point}
 use Rattle.cube.specs.Cubes.{cubeAround}
-use Rattle.cube.specs.Points.{InRoot, CubeInside}
+use Rattle.cube.specs.Points.{InRoot}
 use Rattle.meaning.specs.Fractions.{FractionalPoint, whole, InClosedRoot}
 use Rattle.meaning.specs.Truth.{holdsAt, inSolid}
-use Rattle.colour.specs.declared.State.{State}
-use Rattle.colour.specs.declared.State.the-variants.{Out, In, Single, Comp, Mixed}
-use Rattle.colour.specs.States.{bothOf, eitherOf}
 use Rattle.zonemap.specs.Opening.{rootOf, leavesOf, anyFace}
 use Rattle.zonemap.specs.Leaves.{nthLeaf, nthPlace, nthCube}
 use Rattle.tree.specs.Solid.{solidState, leafOf}
 use Rattle.building.specs.Build.{builtMap}
 use Rattle.zone.specs.declared.ZoneReply.{ZoneReply}
 use Rattle.zone.specs.Replies.{reply, zoneCheckOf, ZoneOutcome, zoneOutcome, zoneBuildOf, zoneOpenOf, zoneLookupOf}
-use Rattle.demands.specs.Terms.{ExactlyOne, DoneWhere, Never, Built, Holds, Touches, GoodSheet, Opens, boundsOver, stateOver, KeepsLimit, CanBuild, CanLookUp, Truthful, NoTouch, OfFace}
+use Rattle.demands.specs.Terms.{ExactlyOne, DoneWhere, Built, Holds, Touches, GoodSheet, Opens, CanBuild, CanLookUp, Truthful, NoTouch}
 use Rattle.demands.specs.Table.{Table}
-use Rattle.demands.specs.Rows.{AllHold, elevenRows, limitRows, mentionedTwice}
-use Rattle.demands.specs.Row11.{buildWithRow11}
-use Rattle.demands.specs.Before03.{stateBefore, zoneBuildBefore, BuiltBefore}
+use Rattle.demands.specs.Rows.{AllHold, elevenRows, limitRows, mentionedTwice, strictRows}
+use Rattle.demands.specs.Reply11.{Reply11}
+use Rattle.demands.specs.SameFace.{SameFace}
+use Rattle.demands.specs.Versions.{Versions}
 
 -- 1. Every sheet, root cube, depth, map and position gets an answer. A bad one gets the refusal in document 01, in its stated order, without any check by the
 -- caller, and the map buffer is then unchanged.
@@ -96,39 +91,7 @@ pub record Demand3 : Type 0 where
   pub truth : (sheet map : List ℕ) → Truthful sheet map → (p : Point) (inside : Bool) → zoneLookupOf sheet map p ≡ reply 0 (cond inside 1 0)
       → inSolid (recordsOf sheet) (whole p) ≡ inside
 
--- Request 2026-11: reply 11, for a record's bounds over a smaller cube, is dropped, and that changed no outcome.
-pub record Reply11 : Type 0 where
-  -- over a cube inside another, each record's bounds lie in its bounds over the other
-  pub inside : (rs : List Record) (inner outer : Cube) → CubeInside inner outer → (i : ℕ) → Inside (boundsOver rs inner i) (boundsOver rs outer i)
-  -- so if every record keeps the limit over a cube, every record keeps it over each cube inside it, whatever tree that belongs to
-  pub keeps : (rs : List Record) (inner outer : Cube) → CubeInside inner outer → KeepsLimit rs outer → KeepsLimit rs inner
-  -- for every input zone_build has the outcome of document 01's table as it was, with row 11 tested at each cube of the tree: the reply, and every byte
-  pub same : (sheet : List ℕ) (root : Root) (before : List ℕ) → zoneBuildOf sheet root before ≡ buildWithRow11 sheet root before
-  -- and no call returns 11
-  pub never : (sheet map before : List ℕ) (root : Root) (p : Point)
-      → Never 11 (zoneCheckOf sheet) × Never 11 (zoneBuildOf sheet root before .reply) × Never 11 (zoneOpenOf map) × Never 11 (zoneLookupOf sheet map p)
-
--- Request 2026-03: the same face mentioned twice. "Mend the rule:
-pub record SameFace : Type 0 where
-  -- both or either of Single(f) with Single(f) is Single(f), and likewise Comp(f);
-  pub twice : (f : ℕ) → (bothOf (Single f) (Single f) ≡ Single f) × (eitherOf (Single f) (Single f) ≡ Single f) × (bothOf (Comp f) (Comp f) ≡ Comp f) × (eitherOf (Comp f) (Comp f) ≡ Comp f)
-  -- both of Single(f) with Comp(f), in either order, is Out, and either of them is In.
-  pub opposite : (f : ℕ) → (bothOf (Single f) (Comp f) ≡ Out) × (bothOf (Comp f) (Single f) ≡ Out) × (eitherOf (Single f) (Comp f) ≡ In) × (eitherOf (Comp f) (Single f) ≡ In)
-  -- Different faces stay Mixed."
-  pub different : (f g : ℕ) → (f ≡ g → ⊥) → (s t : State) → OfFace f s → OfFace g t → (bothOf s t ≡ Mixed) × (eitherOf s t ≡ Mixed)
-  -- over any cube, a record whose state was not Mixed by the old rule has the same state now
-  pub same-state : (rs : List Record) (q : Cube) (i : ℕ) → (stateBefore rs q i ≡ Mixed → ⊥) → stateOver rs q i ≡ stateBefore rs q i
-  -- demand 3 holds of maps built before the change too; so an old and a new map of one sheet do not touch white to black either
-  pub truthful : (sheet map : List ℕ) → BuiltBefore sheet map → Truthful sheet map
-  pub no-touch : (sheet old new : List ℕ) → BuiltBefore sheet old → Built sheet new → NoTouch old new × NoTouch new old
-  -- a position that an old map answered, inside or outside, gets the same answer from the new map of that root and depth
-  pub still-answered : (sheet old new : List ℕ) → BuiltBefore sheet old → Built sheet new → rootOf old ≡ rootOf new → (p : Point) (inside : Bool)
-      → zoneLookupOf sheet old p ≡ reply 0 (cond inside 1 0) → zoneLookupOf sheet new p ≡ reply 0 (cond inside 1 0)
-  -- where building had room for the map, it still has, and the map is not longer
-  pub no-longer : (sheet : List ℕ) (root : Root) (before : List ℕ) → zoneBuildBefore sheet root before .reply .code ≡ 0
-      → (zoneBuildOf sheet root before .reply .code ≡ 0) × (zoneBuildOf sheet root before .reply .number ≤ zoneBuildBefore sheet root before .reply .number)
-
--- the three demands, the eleven rows marked P, that of the limit with both ends (request 2026-04), and what requests 2026-11 and 2026-03 ask for
+-- the three demands, the eleven rows marked P, that of the limit with both ends (request 2026-04), and what requests 2026-11, 2026-03 and 2026-07 ask for
 pub record Demands : Type 0 where
   pub first : Demand1
   pub second : Demand2
@@ -138,3 +101,5 @@ pub record Demands : Type 0 where
   pub reply-11 : Reply11
   pub same-face : SameFace
   pub mentioned-twice : AllHold mentionedTwice
+  pub versions : Versions
+  pub strict-rows : AllHold strictRows

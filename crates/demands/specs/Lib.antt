@@ -3,5 +3,8 @@ pub mod Table
 pub mod Before03
 pub mod Rows
 pub mod Row11
+pub mod Reply11
+pub mod SameFace
+pub mod Versions
 pub mod Demands
 pub mod Contract

@@ -23,21 +23,21 @@ use Rattle.zonemap.specs.Leaves.{nthPlace}
 use Rattle.building.specs.Build.{builtMap}
 use Rattle.zone.specs.declared.ZoneReply.{ZoneReply}
 use Rattle.zone.specs.Replies.{reply, zoneCheckOf, zoneBuildOf, zoneOpenOf, zoneLookupOf}
-use Rattle.demands.specs.Terms.{GoodSheet, GoodLeaf, Opens, boundsOver, KeepsBefore, KeepsLimit}
+use Rattle.demands.specs.Terms.{KnownVersion, GoodSheet, GoodLeaf, Opens, boundsOver, KeepsBefore, KeepsLimit}
 
 -- for any sheet
 pub record SheetRows (sheet : List ℕ) : Type 0 where
   -- under 3 bytes, or its length disagrees
   pub row-1 : lengthFails sheet ≡ true → zoneCheckOf sheet ≡ reply 1 0
-  -- version not 1
-  pub row-2 : lengthFails sheet ≡ false → (getD sheet 2 0 ≡ 1 → ⊥) → zoneCheckOf sheet ≡ reply 2 0
+  -- version neither 1 nor 2, by request 2026-07
+  pub row-2 : lengthFails sheet ≡ false → (KnownVersion sheet → ⊥) → zoneCheckOf sheet ≡ reply 2 0
   -- a record runs over the end, has an unknown kind, a wrong count, or would be the 257th: its byte offset, the first such
-  pub row-3 : lengthFails sheet ≡ false → getD sheet 2 0 ≡ 1 → stopOf sheet < length sheet → zoneCheckOf sheet ≡ reply 3 (stopOf sheet)
+  pub row-3 : lengthFails sheet ≡ false → KnownVersion sheet → stopOf sheet < length sheet → zoneCheckOf sheet ≡ reply 3 (stopOf sheet)
   -- an operand isn't an earlier record or is of the wrong sort: record number, the first such
-  pub row-4 : lengthFails sheet ≡ false → getD sheet 2 0 ≡ 1 → length sheet ≤ stopOf sheet → firstUnmet [] (recordsOf sheet) < length (recordsOf sheet)
+  pub row-4 : lengthFails sheet ≡ false → KnownVersion sheet → length sheet ≤ stopOf sheet → firstUnmet [] (recordsOf sheet) < length (recordsOf sheet)
       → zoneCheckOf sheet ≡ reply 4 (firstUnmet [] (recordsOf sheet))
   -- no records, or the last isn't logical: number of records
-  pub row-5 : lengthFails sheet ≡ false → getD sheet 2 0 ≡ 1 → length sheet ≤ stopOf sheet → firstUnmet [] (recordsOf sheet) ≡ length (recordsOf sheet)
+  pub row-5 : lengthFails sheet ≡ false → KnownVersion sheet → length sheet ≤ stopOf sheet → firstUnmet [] (recordsOf sheet) ≡ length (recordsOf sheet)
       → (lastSort (recordsOf sheet) ≡ Logical → ⊥) → zoneCheckOf sheet ≡ reply 5 (length (recordsOf sheet))
 
 -- row 7 of the reply r, by request 2026-04: n is the first record whose bounds over the root q pass 2^60. The number is twice n, plus 1 for the high end: "the

@@ -24,7 +24,6 @@ use Rattle.cube.specs.Points.{holdsPoint, InRoot}
 use Rattle.meaning.specs.Fractions.{FractionalPoint, InClosed}
 use Rattle.meaning.specs.Truth.{holdsAt, inSolid}
 use Rattle.colour.specs.declared.State.{State}
-use Rattle.colour.specs.declared.State.the-variants.{Single, Comp}
 use Rattle.colour.specs.Entries.{blank, entries}
 use Rattle.zonemap.specs.declared.Leaf.{Leaf}
 use Rattle.zonemap.specs.Opening.{rootOf, leavesOf}
@@ -78,11 +77,15 @@ pub record Touches (map : List ℕ) (p : FractionalPoint) (i : ℕ) : Type 0 whe
 abbrev pub Operand : List Record → ℕ → ℕ → Type 0
 Operand rs i a = (a < i) × (sortOf (getD rs a X) ≡ askedOf (getD rs i X))
 
--- rows 1 to 5: the length agrees, the version is 1, every byte belongs to a record, each operand is as required, and the last record is logical
+-- row 2: the version is 1 or 2
+abbrev pub KnownVersion : List ℕ → Type 0
+KnownVersion sheet = (getD sheet 2 0 ≡ 1) ⊎ (getD sheet 2 0 ≡ 2)
+
+-- rows 1 to 5: the length agrees, the version is 1 or 2, every byte belongs to a record, each operand is as required, and the last record is logical
 pub record GoodSheet (sheet : List ℕ) : Type 0 where
   pub long : 3 ≤ length sheet
   pub agrees : unsignedAt 2 sheet 0 + 2 ≡ length sheet
-  pub version : getD sheet 2 0 ≡ 1
+  pub version : KnownVersion sheet
   pub framed : length sheet ≤ stopOf sheet
   pub operands : (i : ℕ) → i < length (recordsOf sheet) → (askedOf (getD (recordsOf sheet) i X) ≡ Neither → ⊥)
       → Operand (recordsOf sheet) i (firstOf (getD (recordsOf sheet) i X)) × Operand (recordsOf sheet) i (secondOf (getD (recordsOf sheet) i X))
@@ -156,8 +159,3 @@ pub record Truthful (sheet map : List ℕ) : Type 0 where
 -- no white leaf of one map shares even a corner with a black leaf of the other
 abbrev pub NoTouch : List ℕ → List ℕ → Type 0
 NoTouch one other = (p : FractionalPoint) (i j : ℕ) → nthLeaf one i .class ≡ 0 → nthLeaf other j .class ≡ 1 → Touches one p i → Touches other p j → ⊥
-
--- ---- request 2026-03
--- a state that names face f
-abbrev pub OfFace : ℕ → State → Type 0
-OfFace f s = (s ≡ Single f) ⊎ (s ≡ Comp f)

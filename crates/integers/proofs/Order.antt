@@ -4,7 +4,7 @@ use mathlib.Core.Bool.{Bool, true, false, true≢false}
 use Prim.Native.Nat.{ℕ, zero, suc, _*_, _<_}
 use native.Mathlib.Nat.{mul-le-mul-right, mul-pos}
 use native.Mathlib.Omega.{arith}
-use borrow.Author.Tests.{leb-false, ltb-true}
+use borrow.Author.Tests.{leb-false, ltb-true, ltb-false}
 use lib.Dec.{T}
 use lib.IntN.{ℤ, pos, negsuc, negℤ, _+ℤ_, _-ℤ_, _*ℤ_, *ℤ-comm, zero-*ℤ}
 use lib.Signed.{leZ, ltZ, nonNeg, _≤ℤ_, _<ℤ_, clashℤ}
@@ -48,11 +48,23 @@ leZ-false a b p = omega (arith, ints, leZ-above a b p)
 pub ltZ-true : (a b : ℤ) → ltZ a b ≡ true → a <ℤ b
 ltZ-true a b p = record { lt = rw p tt }
 
+pub ltZ-false : (a b : ℤ) → ltZ a b ≡ false → b ≤ℤ a
+ltZ-false (pos a) (pos b) p = ≤-out (pos b) (pos a) (omega (arith, ltb-false))
+ltZ-false (pos a) (negsuc b) p = ≤-out (negsuc b) (pos a) (omega arith)
+ltZ-false (negsuc a) (pos b) p = absurd (true≢false p)
+ltZ-false (negsuc a) (negsuc b) p = ≤-out (negsuc b) (negsuc a) (omega (arith, ltb-false))
+
 pub le-test : (a b : ℤ) → a ≤ℤ b → leZ a b ≡ true
 le-test a b h = T-true (leZ a b) (h .le)
 
 pub gt-test : (a b : ℤ) → b <ℤ a → leZ a b ≡ false
 gt-test a b h = by-test (leZ a b) (λ t. clashℤ h (leZ-true a b t)) (λ t. t)
+
+pub lt-test : (a b : ℤ) → a <ℤ b → ltZ a b ≡ true
+lt-test a b h = T-true (ltZ a b) (h .lt)
+
+pub ge-test : (a b : ℤ) → b ≤ℤ a → ltZ a b ≡ false
+ge-test a b h = by-test (ltZ a b) (λ t. clashℤ (ltZ-true a b t) h) (λ t. t)
 
 -- the sign, as a cast to unsigned requires it
 pub negative : (a : ℤ) → ltZ a (pos 0) ≡ true → T (nonNeg (negℤ a))
@@ -101,7 +113,16 @@ pub above-zero : (a : ℤ) (n : ℕ) → pos 0 <ℤ a → 0 < n → pos 0 <ℤ (
 above-zero (pos a) n h k = <-out (pos 0) (pos (a * n)) (omega (arith, mul-pos {m = a} {n = n} (omega (arith, <-in (pos 0) (pos a) h)) k))
 above-zero (negsuc a) n h k = absurd (h .lt)
 
+pub below-zero : (a : ℤ) (n : ℕ) → a <ℤ pos 0 → 0 < n → (a *ℤ pos n) <ℤ pos 0
+below-zero a n h k = omega (arith, ints, scale-keeps n a (negsuc 0) (omega (arith, ints)), *-is (negsuc 0) (pos n))
+
 -- a number and a positive multiple of it are on the same side of 0
+pub same-sign-strict : (a : ℤ) (n : ℕ) → 0 < n → ltZ (a *ℤ pos n) (pos 0) ≡ ltZ a (pos 0)
+same-sign-strict a n h =
+    by-test (ltZ a (pos 0))
+    (λ t. rw t (lt-test (a *ℤ pos n) (pos 0) (below-zero a n (ltZ-true a (pos 0) t) h)))
+    (λ t. rw t (ge-test (a *ℤ pos n) (pos 0) (at-least-zero a n (ltZ-false a (pos 0) t))))
+
 pub same-sign : (a : ℤ) (n : ℕ) → 0 < n → leZ (a *ℤ pos n) (pos 0) ≡ leZ a (pos 0)
 same-sign a n h =
     by-test (leZ a (pos 0))

@@ -11,10 +11,11 @@ use lib.IntN.{ℤ, pos, _+ℤ_, _-ℤ_, _*ℤ_, *ℤ-comm}
 use lib.ListN.{length, getD, length-append}
 use lib.Pow.{pow-add}
 use lib.Seq.{getD-at}
-use lib.Signed.{leZ, _≤ℤ_}
+use lib.Signed.{leZ, ltZ, _≤ℤ_, _<ℤ_}
 use Rattle.integers.proofs.Ring.{times-one, *-assoc, +-*, minus-*, regroup}
 use Rattle.integers.proofs.Powers.{pow-one, times-none}
-use Rattle.integers.proofs.Order.{leZ-true, le-test, same-sign}
+use Rattle.integers.proofs.Order.{leZ-true, le-test, ltZ-true, lt-test, same-sign, same-sign-strict}
+use Rattle.sheet.specs.declared.Comparison.the-variants.{AtMost, LessThan}
 use Rattle.sheet.specs.declared.Record.{Record}
 use Rattle.sheet.specs.declared.Record.the-variants.{Constant, X, Y, Z, Sum, Difference, Product, Square, Face, Both, Either, Complement}
 use Rattle.sheet.proofs.Along.{along-more, length-along}
@@ -83,12 +84,23 @@ module _ (p : FractionalPoint) (before : List Meaning) where
     unfolding meaningOf valueOf
     square-is = times v m a first
 
-    pub face-is : 0 < m → (here (Face i) .holds ≡ true) ↔ (a ≤ℤ pos 0)
+    -- a test by the sign, which a positive factor keeps, says the same of the numerator and of a
+    same-test : (test : ℤ → Bool) → ((z : ℤ) (k : ℕ) → 0 < k → test (z *ℤ pos k) ≡ test z) → 0 < m → test (v .numerator) ≡ test a
+    same-test test kept positive = sym (kept (v .numerator) m positive) ∙ ap test first ∙ kept a (n ^ v .power) (one-le-pow (v .power) n (p .positive))
+
+    -- in a version 1 sheet a face holds if its operand is at most 0
+    pub face-is : 0 < m → (here (Face AtMost i) .holds ≡ true) ↔ (a ≤ℤ pos 0)
     unfolding meaningOf holdsOf
     face-is positive =
-        let e : leZ (v .numerator) (pos 0) ≡ leZ a (pos 0) =
-        sym (same-sign (v .numerator) m positive) ∙ ap (λ (z : ℤ). leZ z (pos 0)) first ∙ same-sign a (n ^ v .power) (one-le-pow (v .power) n (p .positive)) in
+        let e = same-test (λ (z : ℤ). leZ z (pos 0)) same-sign positive in
         (λ h. leZ-true a (pos 0) (sym e ∙ h), λ h. e ∙ le-test a (pos 0) h)
+
+    -- in a version 2 sheet, if it is less than 0
+    pub strict-face-is : 0 < m → (here (Face LessThan i) .holds ≡ true) ↔ (a <ℤ pos 0)
+    unfolding meaningOf holdsOf
+    strict-face-is positive =
+        let e = same-test (λ (z : ℤ). ltZ z (pos 0)) same-sign-strict positive in
+        (λ h. ltZ-true a (pos 0) (sym e ∙ h), λ h. e ∙ lt-test a (pos 0) h)
 
     -- and record j is b/k
     module _ (j k : ℕ) (b : ℤ) (second : Is n (earlier j .value) b k) where

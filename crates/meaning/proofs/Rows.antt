@@ -5,10 +5,11 @@ use Prim.Native.Nat.{ℕ, suc}
 use native.Mathlib.Nat.{zero-lt-suc}
 use mathlib.Core.List.{List, [], _∷_}
 use lib.IntN.{pos}
+use Rattle.sheet.specs.declared.Comparison.the-variants.{AtMost}
 use Rattle.sheet.specs.declared.Record.{Record}
 use Rattle.sheet.specs.declared.Record.the-variants.{Constant, X, Y, Z, Sum, Difference, Product, Square, Face, Either, Complement}
 use Rattle.sheet.specs.Along.{along, onward}
-use Rattle.sheet.specs.StepRoom.{stepRecords}
+use Rattle.sheet.specs.StepRoom.{stepRecords, strictRecords}
 use Rattle.meaning.specs.Fractions.{FractionalPoint}
 use Rattle.meaning.specs.Truth.{valueOf, holdsOf, meaningOf, holdsAt, inSolid}
 
@@ -31,15 +32,19 @@ record Rows : Type 0 where
   other : holdsAt stepRecords 6 (at 7 0 2) ≡ true
   -- 5/3 is less
   before : inSolid stepRecords (at 5 5 2) ≡ true
+  -- x less than 2 and y less than 2: (2, 0, 0), as 6/3, is on a face, which excludes it, and not (5/3, 5/3, 0)
+  strict-on : inSolid strictRecords (at 6 0 2) ≡ false
+  strict-other : holdsAt strictRecords 6 (at 6 0 2) ≡ true
+  strict-before : inSolid strictRecords (at 5 5 2) ≡ true
 
 rows : Rows
 unfolding inSolid holdsAt along onward meaningOf valueOf holdsOf
-rows = record { corner = refl; same = refl; past = refl; other = refl; before = refl }
+rows = record { corner = refl; same = refl; past = refl; other = refl; before = refl; strict-on = refl; strict-other = refl; strict-before = refl }
 
 -- ---- the other kinds, at halves and thirds
 -- the records that compute a value, the last of which has the number `value`, and a face after them: the value is at most c
 abbrev atMost : List Record → ℕ → ℕ → List Record
-atMost [] value c = Constant (pos c) ∷ Difference value (suc value) ∷ Face (suc (suc value)) ∷ []
+atMost [] value c = Constant (pos c) ∷ Difference value (suc value) ∷ Face AtMost (suc (suc value)) ∷ []
 atMost (r ∷ rs) value c = r ∷ atMost rs value c
 
 record KindRows : Type 0 where
@@ -53,9 +58,9 @@ record KindRows : Type 0 where
   -- the square of 3/2 is more than 2
   square-past : inSolid (atMost (X ∷ Square 0 ∷ []) 1 2) (at 3 0 1) ≡ false
   -- x at most 0 or y at most 0, at (1/2, 0, 0)
-  either-one : inSolid (X ∷ Y ∷ Face 0 ∷ Face 1 ∷ Either 2 3 ∷ []) (at 1 0 1) ≡ true
+  either-one : inSolid (X ∷ Y ∷ Face AtMost 0 ∷ Face AtMost 1 ∷ Either 2 3 ∷ []) (at 1 0 1) ≡ true
   -- not x at most 0, on the face
-  complement-on : inSolid (X ∷ Face 0 ∷ Complement 1 ∷ []) (at 0 0 2) ≡ false
+  complement-on : inSolid (X ∷ Face AtMost 0 ∷ Complement 1 ∷ []) (at 0 0 2) ≡ false
 
 kind-rows : KindRows
 unfolding inSolid holdsAt along onward meaningOf valueOf holdsOf

@@ -6,15 +6,17 @@ use Prim.Native.Nat.{ℕ, _+_, _*_, _^_, _<_}
 use native.Mathlib.Nat.{add-comm, mul-comm, mul-pos, one-le-pow}
 use lib.IntN.{ℤ, pos, _+ℤ_, _-ℤ_, _*ℤ_}
 use lib.Pow.{pow-add}
-use lib.Signed.{leZ}
+use lib.Signed.{leZ, ltZ}
 use Rattle.integers.proofs.Ring.{+-*, minus-*, regroup}
 use Rattle.integers.proofs.Powers.{pow-one, mul-pow, times-none}
-use Rattle.integers.proofs.Order.{same-sign}
+use Rattle.integers.proofs.Order.{same-sign, same-sign-strict}
+use Rattle.sheet.specs.declared.Comparison.{Comparison}
+use Rattle.sheet.specs.declared.Comparison.the-variants.{AtMost, LessThan}
 use Rattle.sheet.specs.declared.Record.{Record}
 use Rattle.sheet.specs.declared.Record.the-variants.{Constant, X, Y, Z, Sum, Difference, Product, Square, Face, Both, Either, Complement}
 use Rattle.sheet.proofs.Along.{Pairs, related}
 use Rattle.meaning.specs.Fractions.{FractionalPoint}
-use Rattle.meaning.specs.Truth.{Value, over, raised, plus, minus, times, atMostZero, Meaning, absent, valueOf, holdsOf, meaningOf, holdsAt}
+use Rattle.meaning.specs.Truth.{Value, over, raised, plus, minus, times, satisfies, Meaning, absent, valueOf, holdsOf, meaningOf, holdsAt}
 
 -- ---- numerators and denominator m times as large
 module _ (m : ℕ) (positive : 0 < m) where
@@ -61,8 +63,9 @@ module _ (m : ℕ) (positive : 0 < m) where
       numerator = ap₂ _*ℤ_ (h .numerator) (k .numerator) ∙ regroup (v .numerator) (w .numerator) (pos (m ^ i)) (pos (m ^ j)) ∙ ap (λ (e : ℕ). (v .numerator *ℤ w .numerator) *ℤ pos e) (sym (pow-add m i j));
     }
 
-  face-same : (v w : Value) → Same v w → atMostZero v ≡ atMostZero w
-  face-same v w h = sym (ap (λ (a : ℤ). leZ a (pos 0)) (h .numerator) ∙ same-sign (v .numerator) (m ^ v .power) (one-le-pow (v .power) m positive))
+  face-same : (by : Comparison) (v w : Value) → Same v w → satisfies by v ≡ satisfies by w
+  face-same AtMost v w h = sym (ap (λ (a : ℤ). leZ a (pos 0)) (h .numerator) ∙ same-sign (v .numerator) (m ^ v .power) (one-le-pow (v .power) m positive))
+  face-same LessThan v w h = sym (ap (λ (a : ℤ). ltZ a (pos 0)) (h .numerator) ∙ same-sign-strict (v .numerator) (m ^ v .power) (one-le-pow (v .power) m positive))
 
   -- ---- all records
   -- the point q is p with numerators and denominator m times as large
@@ -93,7 +96,7 @@ module _ (m : ℕ) (positive : 0 < m) where
     step-value ms ns (Difference a b) e = rw (by-m .n) (minus-same (p .n) _ _ _ _ (e .each a .value) (e .each b .value))
     step-value ms ns (Product a b) e = times-same (p .n) _ _ _ _ (e .each a .value) (e .each b .value)
     step-value ms ns (Square a) e = times-same (p .n) _ _ _ _ (e .each a .value) (e .each a .value)
-    step-value ms ns (Face a) e = alone (pos 0)
+    step-value ms ns (Face by a) e = alone (pos 0)
     step-value ms ns (Both a b) e = alone (pos 0)
     step-value ms ns (Either a b) e = alone (pos 0)
     step-value ms ns (Complement a) e = alone (pos 0)
@@ -108,7 +111,7 @@ module _ (m : ℕ) (positive : 0 < m) where
     step-holds ms ns (Difference a b) e = refl
     step-holds ms ns (Product a b) e = refl
     step-holds ms ns (Square a) e = refl
-    step-holds ms ns (Face a) e = face-same _ _ (e .each a .value)
+    step-holds ms ns (Face by a) e = face-same by _ _ (e .each a .value)
     step-holds ms ns (Both a b) e = ap₂ _&&_ (e .each a .holds) (e .each b .holds)
     step-holds ms ns (Either a b) e = ap₂ _||_ (e .each a .holds) (e .each b .holds)
     step-holds ms ns (Complement a) e = ap not (e .each a .holds)

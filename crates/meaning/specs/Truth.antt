@@ -4,7 +4,9 @@ use mathlib.Core.Bool.{Bool, false, not, _&&_, _||_}
 use mathlib.Core.List.{List}
 use lib.IntN.{ℤ, pos, _+ℤ_, _-ℤ_, _*ℤ_}
 use lib.ListN.{length, getD}
-use lib.Signed.{leZ}
+use lib.Signed.{leZ, ltZ}
+use Rattle.sheet.specs.declared.Comparison.{Comparison}
+use Rattle.sheet.specs.declared.Comparison.the-variants.{AtMost, LessThan}
 use Rattle.sheet.specs.declared.Record.{Record}
 use Rattle.sheet.specs.declared.Record.the-variants.{Constant, X, Y, Z, Sum, Difference, Product, Square, Face, Both, Either, Complement}
 use Rattle.sheet.specs.Operands.{firstOf, secondOf}
@@ -32,9 +34,10 @@ minus n v w = over (raised n v (w .power) -ℤ raised n w (v .power)) (v .power 
 abbrev pub times : Value → Value → Value
 times v w = over (v .numerator *ℤ w .numerator) (v .power + w .power)
 
--- n is positive, so a value is at most 0 exactly if its numerator is
-abbrev pub atMostZero : Value → Bool
-atMostZero v = leZ (v .numerator) (pos 0)
+-- n is positive, so a value is at most 0, or less than 0, exactly if its numerator is
+abbrev pub satisfies : Comparison → Value → Bool
+satisfies AtMost v = leZ (v .numerator) (pos 0)
+satisfies LessThan v = ltZ (v .numerator) (pos 0)
 
 -- what a record is at a point
 pub record Meaning : Type 0 where
@@ -59,13 +62,13 @@ valueOf p v w (Sum a b) = plus (p .n) v w
 valueOf p v w (Difference a b) = minus (p .n) v w
 valueOf p v w (Product a b) = times v w
 valueOf p v w (Square a) = times v v
-valueOf p v w (Face a) = zero
+valueOf p v w (Face by a) = zero
 valueOf p v w (Both a b) = zero
 valueOf p v w (Either a b) = zero
 valueOf p v w (Complement a) = zero
 
 -- Whether a record holds, where v is the value of its first operand, and s and t say whether its operands hold. Face: a is at most 0, so that a point on a face
--- satisfies it. Both, either and complement have their plain meanings.
+-- satisfies it; in version 2 sheets less than 0, so that it does not. Both, either and complement have their plain meanings.
 unfoldable pub holdsOf : Value → Bool → Bool → Record → Bool
 holdsOf v s t (Constant c) = false
 holdsOf v s t X = false
@@ -75,7 +78,7 @@ holdsOf v s t (Sum a b) = false
 holdsOf v s t (Difference a b) = false
 holdsOf v s t (Product a b) = false
 holdsOf v s t (Square a) = false
-holdsOf v s t (Face a) = atMostZero v
+holdsOf v s t (Face by a) = satisfies by v
 holdsOf v s t (Both a b) = s && t
 holdsOf v s t (Either a b) = s || t
 holdsOf v s t (Complement a) = not s

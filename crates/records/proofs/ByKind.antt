@@ -14,10 +14,11 @@ use mir.Val.{toZ, ofZ}
 use mir.Facts.{toZ-ofZ}
 use Rattle.integers.proofs.Order.{by-test}
 use Rattle.bigendian.specs.Numbers.{signedAt}
+use Rattle.sheet.specs.declared.Comparison.{Comparison}
 use Rattle.sheet.specs.declared.Record.{Record}
 use Rattle.sheet.specs.declared.Record.the-variants.{Constant, X, Y, Z, Sum, Difference, Product, Square, Face, Both, Either, Complement}
 use Rattle.sheet.specs.declared.Row.the-variants.{Known}
-use Rattle.sheet.specs.Table.{rowOf, rowAt, isKnown, Stands}
+use Rattle.sheet.specs.Table.{comparisonOf, rowOf, rowAt, isKnown, Stands}
 
 -- the count byte of a kind, and the record that the kind makes with the bytes after it
 abbrev countOf : ℕ → ℕ
@@ -25,22 +26,22 @@ countOf kind =
     cond (eqb kind 1) 5 (cond (eqb kind 2) 1 (cond (eqb kind 3) 1 (cond (eqb kind 4) 1 (cond (eqb kind 5) 3 (cond (eqb kind 6) 3 (cond (eqb kind 7) 3
     (cond (eqb kind 8) 2 (cond (eqb kind 16) 2 (cond (eqb kind 17) 3 (cond (eqb kind 18) 3 2))))))))))
 
-abbrev kindOf : ℕ → ℕ → ℕ → ℤ → Record
-kindOf kind a b c =
+abbrev kindOf : Comparison → ℕ → ℕ → ℕ → ℤ → Record
+kindOf by kind a b c =
     cond (eqb kind 1) (Constant c) (cond (eqb kind 2) X (cond (eqb kind 3) Y (cond (eqb kind 4) Z (cond (eqb kind 5) (Sum a b) (cond (eqb kind 6) (Difference a b)
-    (cond (eqb kind 7) (Product a b) (cond (eqb kind 8) (Square a) (cond (eqb kind 16) (Face a) (cond (eqb kind 17) (Both a b) (cond (eqb kind 18) (Either a b) (Complement a)))))))))))
+    (cond (eqb kind 7) (Product a b) (cond (eqb kind 8) (Square a) (cond (eqb kind 16) (Face by a) (cond (eqb kind 17) (Both a b) (cond (eqb kind 18) (Either a b) (Complement a)))))))))))
 
-module _ (size kind a b : ℕ) (c : ℤ) where
+module _ (by : Comparison) (size kind a b : ℕ) (c : ℤ) where
   abbrev Told : Type 0
-  Told = (0 < size) × (size ≤ 5) × (size ≡ countOf kind) × (rowOf size kind a b c ≡ Known (kindOf kind a b c))
+  Told = (0 < size) × (size ≤ 5) × (size ≡ countOf kind) × (rowOf by size kind a b c ≡ Known (kindOf by kind a b c))
 
   -- a matching row determines all of it
-  hit : (k m : ℕ) → (0 < k) × (k ≤ 5) × (k ≡ countOf m) × (rowOf k m a b c ≡ Known (kindOf m a b c)) → (eqb size k && eqb kind m) ≡ true → Told
+  hit : (k m : ℕ) → (0 < k) × (k ≤ 5) × (k ≡ countOf m) × (rowOf by k m a b c ≡ Known (kindOf by m a b c)) → (eqb size k && eqb kind m) ≡ true → Told
   hit k m h t =
       let e = and-eq-true-iff (eqb size k) (eqb kind m) .0 t in
       rw (eqb-true size k (e .0), eqb-true kind m (e .1)) h
 
-  pub told : isKnown (rowOf size kind a b c) ≡ true → Told
+  pub told : isKnown (rowOf by size kind a b c) ≡ true → Told
   unfolding rowOf
   told h =
       by-test (eqb size 5 && eqb kind 1) (hit 5 1 (omega arith, omega arith, refl, refl)) (λ t1.
@@ -62,9 +63,13 @@ module _ (s : List ℕ) (at : ℕ) (h : Stands s at) where
   abbrev kind : ℕ
   kind = getD s (at + 1) 0
 
-  tells : (0 < getD s at 0) × (getD s at 0 ≤ 5) × (getD s at 0 ≡ countOf kind) × (rowAt s at ≡ Known (kindOf kind (getD s (at + 2) 0) (getD s (at + 3) 0) (signedAt s (at + 2))))
+  -- the record of a kind, by the bytes after it and by the version
+  abbrev made : ℕ → Record
+  made k = kindOf (comparisonOf (getD s 2 0)) k (getD s (at + 2) 0) (getD s (at + 3) 0) (signedAt s (at + 2))
+
+  tells : (0 < getD s at 0) × (getD s at 0 ≤ 5) × (getD s at 0 ≡ countOf kind) × (rowAt s at ≡ Known (made kind))
   unfolding rowAt
-  tells = told (getD s at 0) kind (getD s (at + 2) 0) (getD s (at + 3) 0) (signedAt s (at + 2)) (h .known)
+  tells = told (comparisonOf (getD s 2 0)) (getD s at 0) kind (getD s (at + 2) 0) (getD s (at + 3) 0) (signedAt s (at + 2)) (h .known)
 
   pub kind-room : at + 1 < length s
   kind-room = omega (arith, h .inside, tells .0)
@@ -77,8 +82,8 @@ module _ (s : List ℕ) (at : ℕ) (h : Stands s at) where
   pub record-room : (k : ℕ) → kind ≡ k → at + countOf k < length s
   record-room k e = omega (arith, h .inside, tells .2 ∙ ap countOf e)
 
-  pub record-is : (k : ℕ) → kind ≡ k → rowAt s at ≡ Known (kindOf k (getD s (at + 2) 0) (getD s (at + 3) 0) (signedAt s (at + 2)))
-  record-is k e = tells .3 ∙ ap (λ (m : ℕ). Known (kindOf m (getD s (at + 2) 0) (getD s (at + 3) 0) (signedAt s (at + 2)))) e
+  pub record-is : (k : ℕ) → kind ≡ k → rowAt s at ≡ Known (made k)
+  record-is k e = tells .3 ∙ ap (λ (m : ℕ). Known (made m)) e
 
   -- the same as the arms of a match require them: k is the kind of the arm
   module _ (k : ℕ) (e : kind ≡ k) where
@@ -88,8 +93,15 @@ module _ (s : List ℕ) (at : ℕ) (h : Stands s at) where
     pub second-room : leb 3 (countOf k) ≡ true → at + 3 < length s
     second-room t = omega (arith, record-room k e, leb-true 3 (countOf k) t)
 
-    pub record-as : (r : Record) → kindOf k (getD s (at + 2) 0) (getD s (at + 3) 0) (signedAt s (at + 2)) ≡ r → rowAt s at ≡ Known r
+    pub record-as : (r : Record) → made k ≡ r → rowAt s at ≡ Known r
     record-as r h = record-is k e ∙ ap Known h
+
+  -- the version comes before a face's last byte; `by` is what was read of it
+  pub version-room : kind ≡ 16 → 2 < length s
+  version-room e = omega (arith, record-room 16 e)
+
+  pub record-face : (by : Comparison) → kind ≡ 16 → by ≡ comparisonOf (getD s 2 0) → rowAt s at ≡ Known (Face by (getD s (at + 2) 0))
+  record-face by e h = record-is 16 e ∙ ap (λ (b : Comparison). Known (Face b (getD s (at + 2) 0))) (sym h)
 
   pub record-constant : (c : ℤ) → kind ≡ 1 → c ≡ signedAt s (at + 2) → mag c < 2 ^ 31 → rowAt s at ≡ Known (Constant (toZ w32 (ofZ w32 c)))
   record-constant c e h f = record-is 1 e ∙ ap (λ (z : ℤ). Known (Constant z)) (sym (toZ-ofZ {w = w32} (record { sfits = f }) ∙ h))

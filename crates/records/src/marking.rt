@@ -19,7 +19,7 @@ fn mark(r: Record) -> u8
         Record::Difference(_, _) => 0,
         Record::Product(_, _) => 0,
         Record::Square(_) => 0,
-        Record::Face(_) => 1,
+        Record::Face(_, _) => 1,
         Record::Both(_, _) => 0,
         Record::Either(_, _) => 0,
         Record::Complement(_) => 0,

@@ -1,13 +1,12 @@
 -- A state that names a face names a face of the sheet.
 use mathlib.Core.Path.{_≡_, refl, sym, ap, _∙_}
-use mathlib.Core.Bool.{Bool, true, false, cond, _||_}
+use mathlib.Core.Bool.{Bool, true, false, cond, not, _||_}
 use mathlib.Core.List.{List, _∷_, _++_}
 use Prim.Native.Nat.{ℕ, _-_}
-use lib.IntN.{pos}
 use lib.ListN.{length, getD}
 use lib.Seq.{getD-append-seam}
-use lib.Signed.{leZ, ltZ}
 use Rattle.interval.specs.declared.Interval.{Interval}
+use Rattle.sheet.specs.declared.Comparison.{Comparison}
 use Rattle.sheet.specs.declared.Record.{Record}
 use Rattle.sheet.specs.declared.Record.the-variants.{Constant, X, Y, Z, Sum, Difference, Product, Square, Face, Both, Either, Complement}
 use Rattle.sheet.specs.Along.{along}
@@ -17,7 +16,7 @@ use Rattle.cube.specs.declared.Cube.{Cube}
 use Rattle.zonemap.specs.Opening.{faceGood}
 use Rattle.colour.specs.declared.State.{State}
 use Rattle.colour.specs.declared.State.the-variants.{Out, In, Single, Comp, Mixed}
-use Rattle.colour.specs.States.{isIn, isOut, isSame, faceState, complementOf, otherwiseOf, joinedBy, stateWith}
+use Rattle.colour.specs.States.{isIn, isOut, isSame, meets, faceState, complementOf, otherwiseOf, joinedBy, stateWith}
 use Rattle.colour.specs.Entries.{Entry, blank, entryWith, entryOf, entries}
 use Rattle.tree.specs.Solid.{solidState, leafBy}
 
@@ -30,14 +29,14 @@ module _ (rs : List Record) where
   names (Comp f) = hasFace rs f
   names Mixed = true
 
-  face-names : (i : Interval) (f : ℕ) → hasFace rs f ≡ true → names (faceState i f) ≡ true
+  face-names : (by : Comparison) (i : Interval) (f : ℕ) → hasFace rs f ≡ true → names (faceState by i f) ≡ true
   unfolding faceState
-  face-names i f h = by (leZ (i .high) (pos 0)) (ltZ (pos 0) (i .low))
+  face-names by i f h = any (meets by (i .high)) (meets by (i .low))
     where
-      by : (a b : Bool) → names (cond a In (cond b Out (Single f))) ≡ true
-      by true b = refl
-      by false true = refl
-      by false false = h
+      any : (a b : Bool) → names (cond a In (cond (not b) Out (Single f))) ≡ true
+      any true b = refl
+      any false true = h
+      any false false = refl
 
   complement-names : (s : State) → names s ≡ true → names (complementOf s) ≡ true
   complement-names Out h = refl
@@ -76,10 +75,10 @@ module _ (rs : List Record) where
     Names e _ = names (e .state) ≡ true
 
     -- a face's own number is that of a face
-    own : (before after : List Record) (a : ℕ) → before ++ Face a ∷ after ≡ rs → hasFace rs (length (along (entryOf q) before)) ≡ true
+    own : (by : Comparison) (before after : List Record) (a : ℕ) → before ++ Face by a ∷ after ≡ rs → hasFace rs (length (along (entryOf q) before)) ≡ true
     unfolding hasFace
-    own before after a e =
-        ap isFace (ap (λ n. getD rs n X) (length-along (entryOf q) before) ∙ ap (λ l. getD l (length before) X) (sym e) ∙ getD-append-seam before (Face a) after X)
+    own by before after a e =
+        ap isFace (ap (λ n. getD rs n X) (length-along (entryOf q) before) ∙ ap (λ l. getD l (length before) X) (sym e) ∙ getD-append-seam before (Face by a) after X)
 
     step-names : (before : List Record) (r : Record) (after : List Record) → before ++ r ∷ after ≡ rs
         → Pairs Names blank X (along (entryOf q) before) (along itself before) → names (entryOf q (along (entryOf q) before) r .state) ≡ true
@@ -92,7 +91,7 @@ module _ (rs : List Record) where
     step-names before (Difference a b) after e p = refl
     step-names before (Product a b) after e p = refl
     step-names before (Square a) after e p = refl
-    step-names before (Face a) after e p = face-names _ _ (own before after a e)
+    step-names before (Face by a) after e p = face-names by _ _ (own by before after a e)
     step-names before (Both a b) after e p = joined-names Out refl _ _ (p .each a) (p .each b) isOut isIn
     step-names before (Either a b) after e p = joined-names In refl _ _ (p .each a) (p .each b) isIn isOut
     step-names before (Complement a) after e p = complement-names (getD (along (entryOf q) before) a blank .state) (p .each a)

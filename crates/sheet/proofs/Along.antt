@@ -4,8 +4,9 @@ use mathlib.Core.List.{List, [], _∷_, _++_, append-assoc}
 use Prim.Native.Nat.{ℕ, zero, suc, _+_, _≤_, _<_}
 use native.Mathlib.Omega.{arith}
 use lib.ListN.{length, getD, take, drop, length-append, take-append-drop}
-use lib.Seq.{length-take-le, getD-at, getD-take, take-take, take-length, take-append-seam}
+use lib.Seq.{length-take-le, split-at, getD-at, getD-take, take-take, take-length, take-append-seam}
 use Rattle.sheet.specs.declared.Record.{Record}
+use Rattle.sheet.specs.declared.Record.the-variants.{X}
 use Rattle.sheet.specs.Along.{onward, along}
 
 module _ {A : Type 0} (step : List A → Record → A) where
@@ -65,6 +66,19 @@ module _ {A : Type 0} (step : List A → Record → A) where
       ∙ prefix-at (before ++ r ∷ []) after (length before) d (omega (arith, length-append before (r ∷ [])))
       ∙ ap (λ l. getD l (length before) d) (along-more before r)
       ∙ getD-at (along step before) (step (along step before) r) [] d (length before) (length-along before)
+
+  -- the same of record f, and of a record before it
+  pub entry-at : (rs : List Record) (f : ℕ) (d : A) → f < length rs → getD (along step rs) f d ≡ step (along step (take f rs)) (getD rs f X)
+  entry-at rs f d h =
+      let before : List Record = take f rs in
+      let split : rs ≡ before ++ getD rs f X ∷ drop (suc f) rs = split-at rs f X h in
+      let n : length before ≡ f = length-take-le f rs (omega arith) in
+      ap (λ l. getD (along step l) f d) split
+      ∙ ap (λ k. getD (along step (before ++ getD rs f X ∷ drop (suc f) rs)) k d) (sym n)
+      ∙ entry before (getD rs f X) (drop (suc f) rs) d
+
+  pub before-at : (rs : List Record) (f i : ℕ) (d : A) → f ≤ length rs → i < f → getD (along step (take f rs)) i d ≡ getD (along step rs) i d
+  before-at rs f i d h k = ap (λ l. getD l i d) (sym (take-along rs f h)) ∙ getD-take f (along step rs) i d k
 
 -- two lists, entry by entry; d and e are the defaults for a missing entry
 pub record Pairs {A B : Type 0} (R : A → B → Type 0) (d : A) (e : B) (vs : List A) (ws : List B) : Type 0 where

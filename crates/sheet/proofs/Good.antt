@@ -1,11 +1,11 @@
 -- What a sheet that was found good tells: no row refused it, it has so many records, and there is a last one.
 use mathlib.Core.Path.{_≡_, refl, sym, _∙_}
-use mathlib.Core.Bool.{false}
+use mathlib.Core.Bool.{true, false}
 use mathlib.Core.List.{List, [], _∷_}
 use Prim.Native.Nat.{ℕ, zero, suc, _<_, _≤_}
 use native.Mathlib.Omega.{arith}
-use borrow.Author.Tests.{eqb-true, ltb-false}
-use lib.Dec.{eqb, ltb}
+use borrow.Author.Tests.{ltb-false}
+use lib.Dec.{ltb}
 use lib.ListN.{length, getD}
 use Rattle.integers.proofs.Order.{by-test}
 use Rattle.sheet.specs.declared.Record.{Record}
@@ -20,7 +20,7 @@ use Rattle.replies.specs.declared.Reply.the-variants.{Done, Refused as Bad}
 use Rattle.sheet.specs.Table.{readAt}
 use Rattle.sheet.specs.Records.{onRead, readFrom, reading, recordsOf, stopOf}
 use Rattle.sheet.specs.Operands.{firstUnmet, lastSort}
-use Rattle.sheet.specs.Check.{lengthFails, solidOf, checkRecords, checkOf}
+use Rattle.sheet.specs.Check.{lengthFails, isVersion, solidOf, checkRecords, checkOf}
 use Rattle.sheet.proofs.Unmet.{unmet-most}
 
 -- a refusal is not good
@@ -42,15 +42,15 @@ sorted-good rs n e =
     let last = solid-good (lastSort rs) (length rs) n (rw t at e) in
     (last .0, omega (arith, ltb-false (firstUnmet [] rs) (length rs) t, unmet-most [] rs), last .1))
 
-pub check-parts : (s : List ℕ) (n : ℕ) → checkOf s ≡ Done n → (lengthFails s ≡ false) × (getD s 2 0 ≡ 1) × (length s ≤ stopOf s) × (checkRecords (recordsOf s) ≡ Done n)
+pub check-parts : (s : List ℕ) (n : ℕ) → checkOf s ≡ Done n → (lengthFails s ≡ false) × (isVersion (getD s 2 0) ≡ true) × (length s ≤ stopOf s) × (checkRecords (recordsOf s) ≡ Done n)
 unfolding checkOf
 check-parts s n e =
     by-test (lengthFails s)
     (λ t. not-good Length n (rw t at e))
-    (λ t. by-test (eqb (getD s 2 0) 1)
+    (λ t. by-test (isVersion (getD s 2 0))
     (λ u. by-test (ltb (stopOf s) (length s))
     (λ v. not-good (BadRecord (stopOf s)) n (rw (t, u, v) at e))
-    (λ v. (t, eqb-true _ _ u, ltb-false (stopOf s) (length s) v, rw (t, u, v) at e)))
+    (λ v. (t, u, ltb-false (stopOf s) (length s) v, rw (t, u, v) at e)))
     (λ u. not-good Version n (rw (t, u) at e)))
 
 some : (rs : List Record) → lastSort rs ≡ Logical → 0 < length rs

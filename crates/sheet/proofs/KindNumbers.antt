@@ -6,6 +6,7 @@ use borrow.Author.Tests.{eqb-true}
 use lib.Dec.{eqb, leb}
 use lib.IntN.{ℤ}
 use Rattle.integers.proofs.Order.{by-test}
+use Rattle.sheet.specs.declared.Comparison.{Comparison}
 use Rattle.sheet.specs.declared.Record.{Record}
 use Rattle.sheet.specs.declared.Record.the-variants.{Constant, X, Y, Z, Sum, Difference, Product, Square, Face, Both, Either, Complement}
 use Rattle.sheet.specs.declared.Row.the-variants.{Known, Unknown}
@@ -14,23 +15,23 @@ use Rattle.sheet.specs.Table.{rowOf, isKnown}
 use Rattle.sheet.specs.Operands.{sortOf, askedOf}
 
 -- ---- the table: count byte, kind, record
-record Table (a b : ℕ) (c : ℤ) : Type 0 where
-  constant : rowOf 5 1 a b c ≡ Known (Constant c)
-  x : rowOf 1 2 a b c ≡ Known X
-  y : rowOf 1 3 a b c ≡ Known Y
-  z : rowOf 1 4 a b c ≡ Known Z
-  sum : rowOf 3 5 a b c ≡ Known (Sum a b)
-  difference : rowOf 3 6 a b c ≡ Known (Difference a b)
-  product : rowOf 3 7 a b c ≡ Known (Product a b)
-  square : rowOf 2 8 a b c ≡ Known (Square a)
-  face : rowOf 2 16 a b c ≡ Known (Face a)
-  both : rowOf 3 17 a b c ≡ Known (Both a b)
-  either : rowOf 3 18 a b c ≡ Known (Either a b)
-  complement : rowOf 2 19 a b c ≡ Known (Complement a)
+record Table (by : Comparison) (a b : ℕ) (c : ℤ) : Type 0 where
+  constant : rowOf by 5 1 a b c ≡ Known (Constant c)
+  x : rowOf by 1 2 a b c ≡ Known X
+  y : rowOf by 1 3 a b c ≡ Known Y
+  z : rowOf by 1 4 a b c ≡ Known Z
+  sum : rowOf by 3 5 a b c ≡ Known (Sum a b)
+  difference : rowOf by 3 6 a b c ≡ Known (Difference a b)
+  product : rowOf by 3 7 a b c ≡ Known (Product a b)
+  square : rowOf by 2 8 a b c ≡ Known (Square a)
+  face : rowOf by 2 16 a b c ≡ Known (Face by a)
+  both : rowOf by 3 17 a b c ≡ Known (Both a b)
+  either : rowOf by 3 18 a b c ≡ Known (Either a b)
+  complement : rowOf by 2 19 a b c ≡ Known (Complement a)
 
-table : (a b : ℕ) (c : ℤ) → Table a b c
+table : (by : Comparison) (a b : ℕ) (c : ℤ) → Table by a b c
 unfolding rowOf
-table a b c = record {
+table by a b c = record {
   constant = refl;
   x = refl;
   y = refl;
@@ -55,7 +56,7 @@ kindOf (Sum a b) = 5
 kindOf (Difference a b) = 6
 kindOf (Product a b) = 7
 kindOf (Square a) = 8
-kindOf (Face a) = 16
+kindOf (Face by a) = 16
 kindOf (Both p q) = 17
 kindOf (Either p q) = 18
 kindOf (Complement p) = 19
@@ -69,21 +70,21 @@ countOf (Sum a b) = 3
 countOf (Difference a b) = 3
 countOf (Product a b) = 3
 countOf (Square a) = 2
-countOf (Face a) = 2
+countOf (Face by a) = 2
 countOf (Both p q) = 3
 countOf (Either p q) = 3
 countOf (Complement p) = 2
 
-module _ (size kind a b : ℕ) (c : ℤ) (r : Record) (known : rowOf size kind a b c ≡ Known r) where
+module _ (by : Comparison) (size kind a b : ℕ) (c : ℤ) (r : Record) (known : rowOf by size kind a b c ≡ Known r) where
   abbrev Told : Type 0
   Told = (size ≡ countOf r) × (kind ≡ kindOf r)
 
-  hit : (what : Record) → rowOf (countOf what) (kindOf what) a b c ≡ Known what → (eqb size (countOf what) && eqb kind (kindOf what)) ≡ true → Told
+  hit : (what : Record) → rowOf by (countOf what) (kindOf what) a b c ≡ Known what → (eqb size (countOf what) && eqb kind (kindOf what)) ≡ true → Told
   hit what row t =
       let e = and-eq-true-iff (eqb size (countOf what)) (eqb kind (kindOf what)) .0 t in
       let s = eqb-true size (countOf what) (e .0) in
       let k = eqb-true kind (kindOf what) (e .1) in
-      let same : Known what ≡ Known r = sym row ∙ ap₂ (λ (i j : ℕ). rowOf i j a b c) (sym s) (sym k) ∙ known in
+      let same : Known what ≡ Known r = sym row ∙ ap₂ (λ (i j : ℕ). rowOf by i j a b c) (sym s) (sym k) ∙ known in
       let q : what ≡ r = cc in
       (s ∙ ap countOf q, k ∙ ap kindOf q)
 
@@ -98,7 +99,7 @@ module _ (size kind a b : ℕ) (c : ℤ) (r : Record) (known : rowOf size kind a
       by-test (eqb size 3 && eqb kind 6) (hit (Difference a b) refl) (λ t6.
       by-test (eqb size 3 && eqb kind 7) (hit (Product a b) refl) (λ t7.
       by-test (eqb size 2 && eqb kind 8) (hit (Square a) refl) (λ t8.
-      by-test (eqb size 2 && eqb kind 16) (hit (Face a) refl) (λ t9.
+      by-test (eqb size 2 && eqb kind 16) (hit (Face by a) refl) (λ t9.
       by-test (eqb size 3 && eqb kind 17) (hit (Both a b) refl) (λ t10.
       by-test (eqb size 3 && eqb kind 18) (hit (Either a b) refl) (λ t11.
       by-test (eqb size 2 && eqb kind 19) (hit (Complement a) refl) (λ t12.
@@ -116,7 +117,7 @@ sort-by-kind (Sum a b) = refl
 sort-by-kind (Difference a b) = refl
 sort-by-kind (Product a b) = refl
 sort-by-kind (Square a) = refl
-sort-by-kind (Face a) = refl
+sort-by-kind (Face by a) = refl
 sort-by-kind (Both p q) = refl
 sort-by-kind (Either p q) = refl
 sort-by-kind (Complement p) = refl
@@ -131,7 +132,7 @@ asked-by-kind (Sum a b) = refl
 asked-by-kind (Difference a b) = refl
 asked-by-kind (Product a b) = refl
 asked-by-kind (Square a) = refl
-asked-by-kind (Face a) = refl
+asked-by-kind (Face by a) = refl
 asked-by-kind (Both p q) = refl
 asked-by-kind (Either p q) = refl
 asked-by-kind (Complement p) = refl

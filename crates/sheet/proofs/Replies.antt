@@ -1,5 +1,6 @@
 -- What `check` answers at each of its tests.
 use mathlib.Core.Path.{_≡_}
+use mathlib.Core.Bool.{Bool, true, false, not}
 use mathlib.Core.List.{List}
 use Prim.Native.Nat.{ℕ, _+_, _<_, _≤_}
 use borrow.Author.Tests.{lt-ltb, le-ltb, eq-eqb, ne-eqb}
@@ -9,7 +10,7 @@ use Rattle.replies.specs.declared.Refusal.the-variants.{Length, Version, Record
 use Rattle.replies.specs.declared.Reply.{Reply}
 use Rattle.replies.specs.declared.Reply.the-variants.{Refused}
 use Rattle.sheet.specs.Records.{recordsOf, stopOf}
-use Rattle.sheet.specs.Check.{checkRecords, checkOf}
+use Rattle.sheet.specs.Check.{isVersion, checkRecords, checkOf}
 
 module _ (s : List ℕ) where
   pub too-short : length s < 3 → Refused Length ≡ checkOf s
@@ -22,15 +23,17 @@ module _ (s : List ℕ) where
     disagrees h = rw (le-ltb (length s) 3 long, ← is, ne-eqb _ _ h)
 
     module _ (agrees : u + 2 ≡ length s) where
-      pub other-version : (getD s 2 0 ≡ 1 → ⊥) → Refused Version ≡ checkOf s
-      unfolding checkOf
-      other-version h = rw (le-ltb (length s) 3 long, ← is, eq-eqb _ _ agrees, ne-eqb _ _ h)
-
-      module _ (version : getD s 2 0 ≡ 1) (stop : ℕ) (at : stop ≡ stopOf s) where
-        pub bad-record : stop < length s → Refused (Record stop) ≡ checkOf s
+      -- what `is_version` returned of the version
+      module _ (known : Bool) (by : known ≡ isVersion (getD s 2 0)) where
+        pub other-version : not known ≡ true → Refused Version ≡ checkOf s
         unfolding checkOf
-        bad-record h = rw (le-ltb (length s) 3 long, ← is, eq-eqb _ _ agrees, version, ← at, lt-ltb _ _ h)
+        other-version h = rw (le-ltb (length s) 3 long, ← is, eq-eqb _ _ agrees, ← by, h)
 
-        pub all-framed : (r : Reply) → length s ≤ stop → r ≡ checkRecords (recordsOf s) → r ≡ checkOf s
-        unfolding checkOf
-        all-framed r h e = rw (le-ltb (length s) 3 long, ← is, eq-eqb _ _ agrees, version, ← at, le-ltb _ _ h) e
+        module _ (version : not known ≡ false) (stop : ℕ) (at : stop ≡ stopOf s) where
+          pub bad-record : stop < length s → Refused (Record stop) ≡ checkOf s
+          unfolding checkOf
+          bad-record h = rw (le-ltb (length s) 3 long, ← is, eq-eqb _ _ agrees, ← by, version, ← at, lt-ltb _ _ h)
+
+          pub all-framed : (r : Reply) → length s ≤ stop → r ≡ checkRecords (recordsOf s) → r ≡ checkOf s
+          unfolding checkOf
+          all-framed r h e = rw (le-ltb (length s) 3 long, ← is, eq-eqb _ _ agrees, ← by, version, ← at, le-ltb _ _ h) e

@@ -11,16 +11,18 @@ use mir.Syntax.{w8, w32, w64}
 use mir.Val.{Fits, toZ, ofZ}
 use mir.Facts.{toZ-ofZ}
 use Rattle.bigendian.specs.Numbers.{signedAt}
+use Rattle.sheet.specs.declared.Comparison.{Comparison}
+use Rattle.sheet.specs.declared.Comparison.the-variants.{AtMost}
 use Rattle.sheet.specs.declared.Record.{Record}
 use Rattle.sheet.specs.declared.Record.the-variants.{Constant}
 use Rattle.sheet.specs.declared.Row.{Row}
 use Rattle.sheet.specs.declared.Row.the-variants.{Known, Unknown}
 use Rattle.sheet.specs.declared.Cursor.{Cursor}
 use Rattle.sheet.specs.declared.Read.the-variants.{Found, Refused}
-use Rattle.sheet.specs.Table.{rowOf, rowAt, readAt}
+use Rattle.sheet.specs.Table.{comparisonOf, rowOf, rowAt, readAt}
 
 -- ---- no row
-pub no-two : (kind a b : ℕ) → (kind ≡ 5 → ⊥) → (kind ≡ 6 → ⊥) → (kind ≡ 7 → ⊥) → (kind ≡ 17 → ⊥) → (kind ≡ 18 → ⊥) → Unknown ≡ rowOf 3 kind a b (pos 0)
+pub no-two : (kind a b : ℕ) → (kind ≡ 5 → ⊥) → (kind ≡ 6 → ⊥) → (kind ≡ 7 → ⊥) → (kind ≡ 17 → ⊥) → (kind ≡ 18 → ⊥) → Unknown ≡ rowOf AtMost 3 kind a b (pos 0)
 unfolding rowOf
 no-two kind a b e f g h i = rw (ne-eqb _ _ e, ne-eqb _ _ f, ne-eqb _ _ g, ne-eqb _ _ h, ne-eqb _ _ i)
 
@@ -33,15 +35,15 @@ module _ (s : List ℕ) (at size : ℕ) (is : size ≡ getD s at 0) where
   counted : (n : ℕ) → size ≡ n → getD s at 0 ≡ n
   counted n e = sym is ∙ e
 
-  pub row-none : (r : Row) → size ≡ 1 → r ≡ rowOf 1 (getD s (at + 1) 0) 0 0 (pos 0) → r ≡ rowAt s at
+  pub row-none : (r : Row) → size ≡ 1 → r ≡ rowOf AtMost 1 (getD s (at + 1) 0) 0 0 (pos 0) → r ≡ rowAt s at
   unfolding rowAt rowOf
   row-none r e h = rw (counted 1 e) h
 
-  pub row-one : (r : Row) → size ≡ 2 → r ≡ rowOf 2 (getD s (at + 1) 0) (getD s (at + 2) 0) 0 (pos 0) → r ≡ rowAt s at
+  pub row-one : (by : Comparison) (r : Row) → by ≡ comparisonOf (getD s 2 0) → size ≡ 2 → r ≡ rowOf by 2 (getD s (at + 1) 0) (getD s (at + 2) 0) 0 (pos 0) → r ≡ rowAt s at
   unfolding rowAt rowOf
-  row-one r e h = rw (counted 2 e) h
+  row-one by r b e h = rw (counted 2 e, ← b) h
 
-  pub row-two : (r : Row) → size ≡ 3 → r ≡ rowOf 3 (getD s (at + 1) 0) (getD s (at + 2) 0) (getD s (at + 3) 0) (pos 0) → r ≡ rowAt s at
+  pub row-two : (r : Row) → size ≡ 3 → r ≡ rowOf AtMost 3 (getD s (at + 1) 0) (getD s (at + 2) 0) (getD s (at + 3) 0) (pos 0) → r ≡ rowAt s at
   unfolding rowAt rowOf
   row-two r e h = rw (counted 3 e) h
 

@@ -18,6 +18,10 @@ use Rattle.sheet.specs.Operands.{firstUnmet, lastSort}
 abbrev pub lengthFails : List ℕ → Bool
 lengthFails s = ltb (length s) 3 || not (eqb (unsignedAt 2 s 0 + 2) (length s))
 
+-- the versions of a sheet
+unfoldable pub isVersion : ℕ → Bool
+isVersion version = eqb version 1 || eqb version 2
+
 -- The last record must be logical and is the solid. (n is how many records there are.)
 abbrev pub solidOf : Sort → ℕ → Reply
 solidOf Neither n = Refused (Solid n)
@@ -32,6 +36,6 @@ checkRecords rs = cond (ltb (firstUnmet [] rs) (length rs)) (Refused (Operand (f
 unfoldable pub checkOf : List ℕ → Reply
 checkOf s =
     cond (lengthFails s) (Refused Length)
-    (cond (not (eqb (getD s 2 0) 1)) (Refused Version)
+    (cond (not (isVersion (getD s 2 0))) (Refused Version)
     (cond (ltb (stopOf s) (length s)) (Refused (BadRecord (stopOf s)))
     (checkRecords (recordsOf s))))

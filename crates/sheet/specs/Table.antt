@@ -7,6 +7,8 @@ use lib.Dec.{eqb, leb}
 use lib.IntN.{ℤ}
 use lib.ListN.{length, getD}
 use Rattle.bigendian.specs.Numbers.{signedAt}
+use Rattle.sheet.specs.declared.Comparison.{Comparison}
+use Rattle.sheet.specs.declared.Comparison.the-variants.{AtMost, LessThan}
 use Rattle.sheet.specs.declared.Record.the-variants.{Constant, X, Y, Z, Sum, Difference, Product, Square, Face, Both, Either, Complement}
 use Rattle.sheet.specs.declared.Row.{Row}
 use Rattle.sheet.specs.declared.Row.the-variants.{Known, Unknown}
@@ -14,9 +16,14 @@ use Rattle.sheet.specs.declared.Cursor.{Cursor}
 use Rattle.sheet.specs.declared.Read.{Read}
 use Rattle.sheet.specs.declared.Read.the-variants.{Found, Refused}
 
+-- How a face compares, by the sheet's version. (Request 2026-07: in version 2 sheets kind 16 means less than 0. Version 1 sheets keep their rule.)
+unfoldable pub comparisonOf : ℕ → Comparison
+comparisonOf version = cond (eqb version 2) LessThan AtMost
+
 -- The table, row by row: a count byte, a kind, and the record they make with the bytes after the kind. a and b are the first two of these, c the first four as a signed number.
-unfoldable pub rowOf : ℕ → ℕ → ℕ → ℕ → ℤ → Row
-rowOf size kind a b c =
+-- `by` is how a face compares.
+unfoldable pub rowOf : Comparison → ℕ → ℕ → ℕ → ℕ → ℤ → Row
+rowOf by size kind a b c =
     cond (eqb size 5 && eqb kind 1) (Known (Constant c))
     (cond (eqb size 1 && eqb kind 2) (Known X)
     (cond (eqb size 1 && eqb kind 3) (Known Y)
@@ -25,15 +32,15 @@ rowOf size kind a b c =
     (cond (eqb size 3 && eqb kind 6) (Known (Difference a b))
     (cond (eqb size 3 && eqb kind 7) (Known (Product a b))
     (cond (eqb size 2 && eqb kind 8) (Known (Square a))
-    (cond (eqb size 2 && eqb kind 16) (Known (Face a))
+    (cond (eqb size 2 && eqb kind 16) (Known (Face by a))
     (cond (eqb size 3 && eqb kind 17) (Known (Both a b))
     (cond (eqb size 3 && eqb kind 18) (Known (Either a b))
     (cond (eqb size 2 && eqb kind 19) (Known (Complement a))
     Unknown)))))))))))
 
--- the row that matches the bytes from `at` on
+-- the row that matches the bytes from `at` on; byte 2 is the version
 unfoldable pub rowAt : List ℕ → ℕ → Row
-rowAt s at = rowOf (getD s at 0) (getD s (at + 1) 0) (getD s (at + 2) 0) (getD s (at + 3) 0) (signedAt s (at + 2))
+rowAt s at = rowOf (comparisonOf (getD s 2 0)) (getD s at 0) (getD s (at + 1) 0) (getD s (at + 2) 0) (getD s (at + 3) 0) (signedAt s (at + 2))
 
 -- the record of a row and the cursor past it, or the refusal with its offset
 abbrev pub onRow : Row → Cursor → ℕ → Read

@@ -7,7 +7,14 @@ mod table;
 
 pub use checking::check;
 
-// A record: its kind and what follows the kind. An operand is the number of an earlier record.
+// How a face compares its operand with 0: at most 0 in a version 1 sheet; less than 0 in a version 2 sheet, so that a face excludes its own points.
+pub enum Comparison {
+    AtMost,
+    LessThan,
+}
+
+// A record: its kind and what follows the kind. An operand is the number of an earlier record. A face also has the comparison of its sheet's version, so that
+// whatever goes by records needs no version.
 pub enum Record {
     Constant(i32),
     X,
@@ -17,7 +24,7 @@ pub enum Record {
     Difference(u8, u8),
     Product(u8, u8),
     Square(u8),
-    Face(u8),
+    Face(Comparison, u8),
     Both(u8, u8),
     Either(u8, u8),
     Complement(u8),

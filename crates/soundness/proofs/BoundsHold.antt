@@ -68,7 +68,7 @@ module _ (q : Cube) (p : FractionalPoint) (h : InClosed q p) where
   step-holds es ms (Difference a b) k = difference-value (p .n) _ _ _ _ (k .each a) (k .each b)
   step-holds es ms (Product a b) k = product-value (p .n) _ _ _ _ (k .each a) (k .each b)
   step-holds es ms (Square a) k = square-value (p .n) _ _ (k .each a)
-  step-holds es ms (Face a) k = alone (p .n) (pos 0)
+  step-holds es ms (Face by a) k = alone (p .n) (pos 0)
   step-holds es ms (Both a b) k = alone (p .n) (pos 0)
   step-holds es ms (Either a b) k = alone (p .n) (pos 0)
   step-holds es ms (Complement a) k = alone (p .n) (pos 0)

@@ -5,39 +5,67 @@ use mathlib.Core.Logic.{_⊎_, inl, inr, ⊎-elim}
 use mathlib.Core.List.{List, _∷_, _++_}
 use Prim.Native.Nat.{ℕ, _^_, _<_}
 use native.Mathlib.Nat.{one-le-pow}
-use lib.IntN.{pos}
+use native.Mathlib.Omega.{arith}
+use lib.IntN.{ℤ, pos, _*ℤ_}
 use lib.ListN.{length, getD}
-use lib.Signed.{leZ, ltZ, <ℤ-≤ℤ-trans}
-use Rattle.integers.proofs.Order.{≤-trans, by-test, leZ-true, ltZ-true, le-test, gt-test, at-most-zero, above-zero}
+use lib.Signed.{_≤ℤ_}
+use Rattle.integers.proofs.Naturals.{ints}
+use Rattle.integers.proofs.Order.{≤-trans, by-test, leZ-true, ltZ-true, le-test, lt-test, same-sign, same-sign-strict}
 use Rattle.interval.specs.declared.Interval.{Interval}
+use Rattle.sheet.specs.declared.Comparison.{Comparison}
+use Rattle.sheet.specs.declared.Comparison.the-variants.{AtMost, LessThan}
 use Rattle.sheet.specs.declared.Record.{Record}
 use Rattle.sheet.specs.declared.Record.the-variants.{Constant, X, Y, Z, Sum, Difference, Product, Square, Face, Both, Either, Complement}
 use Rattle.sheet.proofs.Along.{Pairs, length-along, entry, related-in}
 use Rattle.cube.specs.declared.Cube.{Cube}
 use Rattle.colour.specs.declared.State.{State}
 use Rattle.colour.specs.declared.State.the-variants.{Out, In, Single, Comp, Mixed}
-use Rattle.colour.specs.States.{isIn, isOut, isSame, faceState, complementOf, otherwiseOf, joinedBy, bothOf, eitherOf, stateWith}
+use Rattle.colour.specs.States.{isIn, isOut, isSame, meets, faceState, complementOf, otherwiseOf, joinedBy, bothOf, eitherOf, stateWith}
 use Rattle.colour.specs.Entries.{Entry, blank, entryWith, entryOf, entries}
 use Rattle.colour.proofs.Otherwise.{opposite-turn, same-is, is-same, otherwise-same, otherwise-opposite, otherwise-mixed}
 use Rattle.colour.proofs.Joined.{is-in, is-out}
 use Rattle.meaning.specs.Fractions.{FractionalPoint, InClosed}
-use Rattle.meaning.specs.Truth.{Value, atMostZero, Meaning, absent, holdsOf, meaningOf, meanings, holdsAt}
+use Rattle.meaning.specs.Truth.{Value, satisfies, Meaning, absent, holdsOf, meaningOf, meanings, holdsAt}
 use Rattle.soundness.specs.Claims.{HoldsValue, Sound}
 use Rattle.soundness.proofs.BoundsHold.{face-bounds-hold}
 
+-- ---- a face's comparison: what both have in common
+-- the value's numerator meets it
+pub satisfied : (by : Comparison) (v : Value) → satisfies by v ≡ meets by (v .numerator)
+unfolding meets
+satisfied AtMost v = refl
+satisfied LessThan v = refl
+
+-- a number and a positive multiple of it meet it or do not
+meets-scaled : (by : Comparison) (a : ℤ) (n : ℕ) → 0 < n → meets by (a *ℤ pos n) ≡ meets by a
+unfolding meets
+meets-scaled AtMost a n h = same-sign a n h
+meets-scaled LessThan a n h = same-sign-strict a n h
+
+-- what is less than a number that meets it meets it too
+meets-below : (by : Comparison) (a b : ℤ) → a ≤ℤ b → meets by b ≡ true → meets by a ≡ true
+unfolding meets
+meets-below AtMost a b h t = le-test a (pos 0) (≤-trans _ _ _ h (leZ-true b (pos 0) t))
+meets-below LessThan a b h t = lt-test a (pos 0) (omega (arith, ints, ltZ-true b (pos 0) t))
+
+-- so what is greater than one that does not, does not
+fails-above : (by : Comparison) (a b : ℤ) → b ≤ℤ a → meets by b ≡ false → meets by a ≡ false
+fails-above by a b h f = by-test (meets by a) (λ t. absurd (true≢false (sym (meets-below by b a h t) ∙ f))) (λ t. t)
+
 -- ---- each rule, once
 module _ (face : ℕ → Bool) where
-  -- In if b <= 0; Out if a > 0; else Single(that face)
-  pub face-sound : (n : ℕ) → 0 < n → (i : Interval) (v : Value) (f : ℕ) → HoldsValue n i v → face f ≡ atMostZero v → Sound face (faceState i f) (atMostZero v)
+  -- In if b meets the comparison; Out if a does not; else Single(that face)
+  pub face-sound : (by : Comparison) (n : ℕ) → 0 < n → (i : Interval) (v : Value) (f : ℕ) → HoldsValue n i v → face f ≡ satisfies by v → Sound face (faceState by i f) (satisfies by v)
   unfolding faceState Sound
-  face-sound n positive i v f h e =
-      let scale = n ^ v .power in
-      by-test (leZ (i .high) (pos 0))
-      (λ t. rw t (le-test (v .numerator) (pos 0) (≤-trans _ _ _ (h .high) (at-most-zero (i .high) scale (leZ-true (i .high) (pos 0) t)))))
+  face-sound by n positive i v f h e =
+      let scaled : (a : ℤ) → meets by (a *ℤ pos (n ^ v .power)) ≡ meets by a = λ a. meets-scaled by a (n ^ v .power) (one-le-pow (v .power) n positive) in
+      let is = satisfied by v in
+      by-test (meets by (i .high))
+      (λ t. rw t (is ∙ meets-below by _ _ (h .high) (scaled (i .high) ∙ t)))
       (λ t.
-      by-test (ltZ (pos 0) (i .low))
-      (λ u. rw (t, u) (gt-test (v .numerator) (pos 0) (<ℤ-≤ℤ-trans (above-zero (i .low) scale (ltZ-true (pos 0) (i .low) u) (one-le-pow (v .power) n positive)) (h .low))))
-      (λ u. rw (t, u) (sym e)))
+      by-test (meets by (i .low))
+      (λ u. rw (t, u) (sym e))
+      (λ u. rw (t, u) (is ∙ fails-above by _ _ (h .low) (scaled (i .low) ∙ u))))
 
   -- Mixed says nothing
   pub mixed-sound : (a : Bool) → Sound face Mixed a
@@ -124,12 +152,12 @@ module _ (q : Cube) (p : FractionalPoint) (h : InClosed q p) (rs : List Record) 
   Says e m = Sound face (e .state) (m .holds)
 
   -- a face's own entry
-  own : (before after : List Record) (a : ℕ) → before ++ Face a ∷ after ≡ rs → face (length (entries q before)) ≡ atMostZero (getD (meanings p before) a absent .value)
+  own : (by : Comparison) (before after : List Record) (a : ℕ) → before ++ Face by a ∷ after ≡ rs → face (length (entries q before)) ≡ satisfies by (getD (meanings p before) a absent .value)
   unfolding holdsAt meaningOf holdsOf
-  own before after a e =
+  own by before after a e =
       ap face (length-along (entryOf q) before)
       ∙ ap (λ (l : List Record). getD (meanings p l) (length before) absent .holds) (sym e)
-      ∙ ap (λ (m : Meaning). m .holds) (entry (meaningOf p) before (Face a) after absent)
+      ∙ ap (λ (m : Meaning). m .holds) (entry (meaningOf p) before (Face by a) after absent)
 
   step-sound : (before : List Record) (r : Record) (after : List Record) → before ++ r ∷ after ≡ rs → Pairs Says blank absent (entries q before) (meanings p before)
       → Says (entryOf q (entries q before) r) (meaningOf p (meanings p before) r)
@@ -142,7 +170,7 @@ module _ (q : Cube) (p : FractionalPoint) (h : InClosed q p) (rs : List Record) 
   step-sound before (Difference a b) after e k = mixed-sound face false
   step-sound before (Product a b) after e k = mixed-sound face false
   step-sound before (Square a) after e k = mixed-sound face false
-  step-sound before (Face a) after e k = face-sound face (p .n) (p .positive) _ _ _ (face-bounds-hold q p h before a) (own before after a e)
+  step-sound before (Face by a) after e k = face-sound face by (p .n) (p .positive) _ _ _ (face-bounds-hold q p h before a) (own by before after a e)
   step-sound before (Both a b) after e k = both-sound face _ _ _ _ (k .each a) (k .each b)
   step-sound before (Either a b) after e k = either-sound face _ _ _ _ (k .each a) (k .each b)
   step-sound before (Complement a) after e k = complement-sound face _ _ (k .each a)

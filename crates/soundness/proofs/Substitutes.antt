@@ -11,6 +11,7 @@ use lib.Signed.{leZ, ltZ}
 use Rattle.integers.specs.Least.{lesserOf, greaterOf}
 use Rattle.interval.specs.declared.Interval.{Interval}
 use Rattle.interval.specs.Rules.{from, only, difference, span, product, square}
+use Rattle.sheet.specs.declared.Comparison.the-variants.{AtMost}
 use Rattle.sheet.specs.declared.Record.{Record}
 use Rattle.sheet.specs.declared.Record.the-variants.{Constant, X, Y, Difference, Face, Both}
 use Rattle.sheet.specs.Along.{along, onward}
@@ -19,7 +20,7 @@ use Rattle.cube.specs.Cubes.{half}
 use Rattle.colour.specs.declared.State.{State}
 use Rattle.colour.specs.declared.State.the-variants.{Out, In, Single, Mixed}
 use Rattle.colour.specs.Bounds.{across, boundsOf}
-use Rattle.colour.specs.States.{isIn, isOut, faceState, stateWith}
+use Rattle.colour.specs.States.{isIn, isOut, meets, faceState, stateWith}
 use Rattle.colour.specs.Entries.{blank, faceBounds, entryWith, entries}
 use Rattle.meaning.specs.Fractions.{FractionalPoint, BetweenPlanes, InClosed}
 use Rattle.meaning.specs.Truth.{valueOf, holdsOf, meaningOf, holdsAt, inSolid}
@@ -62,7 +63,7 @@ sampled rs q = let inside : ℕ → Bool = λ k. inSolid rs (corner q k) in cond
 
 -- the strip with x from 1 to 2 misses every corner of a cube with x from 0 to 4
 abbrev strip : List Record
-strip = X ∷ Constant (pos 1) ∷ Constant (pos 2) ∷ Difference 1 0 ∷ Difference 0 2 ∷ Face 3 ∷ Face 4 ∷ Both 5 6 ∷ []
+strip = X ∷ Constant (pos 1) ∷ Constant (pos 2) ∷ Difference 1 0 ∷ Difference 0 2 ∷ Face AtMost 3 ∷ Face AtMost 4 ∷ Both 5 6 ∷ []
 
 -- a number lies between two planes, by computation
 abbrev lies : {plane : ℤ} {side : ℕ} {a : ℤ} {n : ℕ} → T (leZ (plane *ℤ pos n) a) → T (leZ a ((plane +ℤ pos side) *ℤ pos n)) → BetweenPlanes plane side a n
@@ -79,10 +80,10 @@ corners-sampled = record {
 -- ---- a coordinate by its low corner alone
 -- x is at most 1
 abbrev wall : List Record
-wall = X ∷ Constant (pos 1) ∷ Difference 0 1 ∷ Face 2 ∷ []
+wall = X ∷ Constant (pos 1) ∷ Difference 0 1 ∷ Face AtMost 2 ∷ []
 
-low-corner : Unsound wall (cube (pos 0) 4) (faceState (difference (only (pos 0)) (only (pos 1))) 3)
-unfolding faceState difference Sound inSolid holdsAt along onward meaningOf valueOf holdsOf
+low-corner : Unsound wall (cube (pos 0) 4) (faceState AtMost (difference (only (pos 0)) (only (pos 1))) 3)
+unfolding meets faceState difference Sound inSolid holdsAt along onward meaningOf valueOf holdsOf
 low-corner = record {
   point = at (pos 4) (pos 0) 0;
   closed = record { x = lies tt tt; y = lies tt tt; z = lies tt tt };
@@ -107,13 +108,13 @@ keptOf s t = cond (isOut s || isOut t) Out (cond (isIn s) t s)
 
 -- x and y are at most 0
 abbrev edge : List Record
-edge = X ∷ Y ∷ Face 0 ∷ Face 1 ∷ Both 2 3 ∷ []
+edge = X ∷ Y ∷ Face AtMost 0 ∷ Face AtMost 1 ∷ Both 2 3 ∷ []
 
 abbrev edgeState : ℕ → State
 edgeState n = getD (entries (cube (negsuc 0) 2) edge) n blank .state
 
 single-kept : Unsound edge (cube (negsuc 0) 2) (keptOf (edgeState 2) (edgeState 3))
-unfolding keptOf entryWith faceBounds boundsOf stateWith across faceState Sound inSolid holdsAt along onward meaningOf valueOf holdsOf
+unfolding keptOf entryWith faceBounds boundsOf stateWith across meets faceState Sound inSolid holdsAt along onward meaningOf valueOf holdsOf
 single-kept = record {
   point = at (pos 0) (pos 1) 0;
   closed = record { x = lies tt tt; y = lies tt tt; z = lies tt tt };
@@ -130,6 +131,6 @@ square-as-product e = true≢false (sym (ap (λ (i : Interval). leZ (pos 0) (i .
 undecided : Interval → ℕ → State
 undecided i f = cond (ltZ (i .high) (pos 0)) In (cond (ltZ (pos 0) (i .low)) Out (Single f))
 
-called-undecided : (f : ℕ) → undecided (from (negsuc 1) (pos 0)) f ≡ faceState (from (negsuc 1) (pos 0)) f → ⊥
-unfolding undecided faceState
+called-undecided : (f : ℕ) → undecided (from (negsuc 1) (pos 0)) f ≡ faceState AtMost (from (negsuc 1) (pos 0)) f → ⊥
+unfolding undecided meets faceState
 called-undecided f e = true≢false (sym (ap isIn e))

@@ -1,6 +1,6 @@
 -- `records::by_kind::record_at` meets its contract: the kind determines how many bytes follow it, and which record they make.
 use native.Mathlib.Omega.{arith}
-use Rattle.records.proofs.ByKind.{kind-room, record-room, first-room, second-room, record-as, record-constant, complement-room, complement-is}
+use Rattle.records.proofs.ByKind.{kind-room, record-room, first-room, second-room, version-room, record-as, record-face, record-constant, complement-room, complement-is}
 use borrow.Author.Needs.{needs}
 use Rattle.records.proofs.by_kind.record_at.Statement.{statement}
 use Rattle.records.proofs.by_kind.record_at.Tie as tie
@@ -59,11 +59,11 @@ add-t28 c = search needs
 shared-slice-read-t30 : tie.Need-shared-slice-read-t30
 shared-slice-read-t30 c = search (needs, first-room)
 
-add-t31 : tie.Need-add-t31
-add-t31 c = search needs
+shared-slice-read-of : tie.Need-shared-slice-read-of
+shared-slice-read-of c = search (needs, version-room)
 
-shared-slice-read-t33 : tie.Need-shared-slice-read-t33
-shared-slice-read-t33 c = search (needs, first-room)
+of-requires : tie.Need-of-requires
+of-requires c κs = search needs
 
 add-t34 : tie.Need-add-t34
 add-t34 c = search needs
@@ -75,25 +75,31 @@ add-t37 : tie.Need-add-t37
 add-t37 c = search needs
 
 shared-slice-read-t39 : tie.Need-shared-slice-read-t39
-shared-slice-read-t39 c = search (needs, second-room)
+shared-slice-read-t39 c = search (needs, first-room)
 
 add-t40 : tie.Need-add-t40
 add-t40 c = search needs
 
 shared-slice-read-t42 : tie.Need-shared-slice-read-t42
-shared-slice-read-t42 c = search (needs, first-room)
+shared-slice-read-t42 c = search (needs, second-room)
 
 add-t43 : tie.Need-add-t43
 add-t43 c = search needs
 
 shared-slice-read-t45 : tie.Need-shared-slice-read-t45
-shared-slice-read-t45 c = search (needs, second-room)
+shared-slice-read-t45 c = search (needs, first-room)
 
 add-t46 : tie.Need-add-t46
 add-t46 c = search needs
 
 shared-slice-read-t48 : tie.Need-shared-slice-read-t48
-shared-slice-read-t48 c = search (needs, complement-room)
+shared-slice-read-t48 c = search (needs, second-room)
+
+add-t49 : tie.Need-add-t49
+add-t49 c = search needs
+
+shared-slice-read-t51 : tie.Need-shared-slice-read-t51
+shared-slice-read-t51 c = search (needs, complement-room)
 
 returns : tie.Need-returns
 returns c = search (needs, record-constant)
@@ -120,7 +126,7 @@ returns-8 : tie.Need-returns-8
 returns-8 c = search (needs, record-as)
 
 returns-9 : tie.Need-returns-9
-returns-9 c = search (needs, record-as)
+returns-9 c = search (needs, record-face)
 
 returns-10 : tie.Need-returns-10
 returns-10 c = search (needs, record-as)
@@ -153,8 +159,8 @@ record-at-spec =
     shared-slice-read-t27
     add-t28
     shared-slice-read-t30
-    add-t31
-    shared-slice-read-t33
+    shared-slice-read-of
+    of-requires
     add-t34
     shared-slice-read-t36
     add-t37
@@ -165,6 +171,8 @@ record-at-spec =
     shared-slice-read-t45
     add-t46
     shared-slice-read-t48
+    add-t49
+    shared-slice-read-t51
     returns
     returns-2
     returns-3

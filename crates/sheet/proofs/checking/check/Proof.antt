@@ -19,8 +19,11 @@ add-if2 c = search needs
 returns-2 : tie.Need-returns-2
 returns-2 c = search (needs, disagrees)
 
-shared-slice-read-if3 : tie.Need-shared-slice-read-if3
-shared-slice-read-if3 c = search needs
+shared-slice-read-is-version : tie.Need-shared-slice-read-is-version
+shared-slice-read-is-version c = search needs
+
+is-version-requires : tie.Need-is-version-requires
+is-version-requires c κs = search needs
 
 returns-3 : tie.Need-returns-3
 returns-3 c = search (needs, other-version)
@@ -46,7 +49,8 @@ check-spec =
     cast-if2
     add-if2
     returns-2
-    shared-slice-read-if3
+    shared-slice-read-is-version
+    is-version-requires
     returns-3
     stop-requires
     returns-4

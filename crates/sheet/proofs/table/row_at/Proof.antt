@@ -16,6 +16,12 @@ no-operand-requires c κs = search needs
 returns : tie.Need-returns
 returns c = search (needs, row-none)
 
+shared-slice-read-of : tie.Need-shared-slice-read-of
+shared-slice-read-of c = search needs
+
+of-requires : tie.Need-of-requires
+of-requires c κs = search needs
+
 add-one-operand : tie.Need-add-one-operand
 add-one-operand c = search needs
 
@@ -87,6 +93,8 @@ row-at-spec =
     shared-slice-read-no-operand
     no-operand-requires
     returns
+    shared-slice-read-of
+    of-requires
     add-one-operand
     shared-slice-read-one-operand
     add-one-operand-2

@@ -1,18 +1,21 @@
--- Document 01's table of kinds by its numbers: each row, that there are no others, and the sorts of a record and of its operands by its kind.
+-- Document 01's table of kinds by its numbers: each row, that there are no others, and the sorts of a record and of its operands by its kind. And the versions.
 use mathlib.Core.Path.{_≡_, refl, sym, ap, ap₂, _∙_}
-use mathlib.Core.Bool.{true, cond, _&&_, true≢false, and-eq-true-iff}
+use mathlib.Core.Bool.{true, false, cond, _&&_, true≢false, and-eq-true-iff}
+use mathlib.Core.List.{[], _∷_}
 use Prim.Native.Nat.{ℕ}
 use borrow.Author.Tests.{eqb-true}
 use lib.Dec.{eqb, leb}
 use lib.IntN.{ℤ}
 use Rattle.integers.proofs.Order.{by-test}
 use Rattle.sheet.specs.declared.Comparison.{Comparison}
+use Rattle.sheet.specs.declared.Comparison.the-variants.{AtMost, LessThan}
 use Rattle.sheet.specs.declared.Record.{Record}
 use Rattle.sheet.specs.declared.Record.the-variants.{Constant, X, Y, Z, Sum, Difference, Product, Square, Face, Both, Either, Complement}
 use Rattle.sheet.specs.declared.Row.the-variants.{Known, Unknown}
 use Rattle.sheet.specs.declared.Sort.the-variants.{Neither, Arithmetic, Logical}
-use Rattle.sheet.specs.Table.{rowOf, isKnown}
+use Rattle.sheet.specs.Table.{comparisonOf, rowOf, isKnown}
 use Rattle.sheet.specs.Operands.{sortOf, askedOf}
+use Rattle.sheet.specs.Check.{isVersion}
 
 -- ---- the table: count byte, kind, record
 record Table (by : Comparison) (a b : ℕ) (c : ℤ) : Type 0 where
@@ -136,3 +139,14 @@ asked-by-kind (Face by a) = refl
 asked-by-kind (Both p q) = refl
 asked-by-kind (Either p q) = refl
 asked-by-kind (Complement p) = refl
+
+-- ---- versions
+-- of 0, 1, 2, 3 and 255 only 1 and 2 are versions
+version-rows : isVersion 0 ∷ isVersion 1 ∷ isVersion 2 ∷ isVersion 3 ∷ isVersion 255 ∷ [] ≡ false ∷ true ∷ true ∷ false ∷ false ∷ []
+unfolding isVersion
+version-rows = refl
+
+-- in version 1 a face means at most 0, in version 2 less than 0
+comparison-rows : comparisonOf 1 ∷ comparisonOf 2 ∷ [] ≡ AtMost ∷ LessThan ∷ []
+unfolding comparisonOf
+comparison-rows = refl

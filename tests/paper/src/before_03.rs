@@ -45,7 +45,11 @@ mod tests {
     use super::*;
     use crate::build;
     use crate::map::{HEADER, LEAF};
-    use crate::sheet::Record::{self, *};
+    use crate::sheet::{
+        Record::{self, *},
+        Version::{self, *},
+        VERSIONS,
+    };
 
     /// The states of two faces and the others, by a letter each; f and g are Single, F and G Comp.
     const STATES: [(char, State); 7] = [
@@ -89,10 +93,11 @@ mod tests {
         gives(&either, [i, o, f, f_comp, g, g_comp, m]);
     }
 
-    /// The leaves of the maps over 0 to 4, at depth d, by the new rule and by this one. Record 3 is x at most 2.
-    fn leaves(joined: &[Record], d: u8) -> [Vec<[u8; LEAF]>; 2] {
+    /// The leaves of the maps over 0 to 4, at depth d, by the new rule and by this one. Record 3 is x at most 2, or less
+    /// than 2 in version 2.
+    fn leaves(version: Version, joined: &[Record], d: u8) -> [Vec<[u8; LEAF]>; 2] {
         let face = [X, Constant(2), Difference(0, 1), Face(2)];
-        let sheet = sheet::write(&[&face[..], joined].concat());
+        let sheet = sheet::write(version, &[&face[..], joined].concat());
         let (low, k) = ([0, 0, 0], 2);
         [build::map_of, map_of].map(|map_of| {
             let map = map_of(&sheet, &Root { low, k, d }).unwrap();
@@ -100,10 +105,33 @@ mod tests {
         })
     }
 
-    /// The leaves of a root that is split: in the low half of x the face is In, and gives this class; in the high half it
-    /// is Single, and the leaf is gray.
-    fn halves(low: u8) -> Vec<[u8; LEAF]> {
-        [[1, low, 0], [1, 4, 0]].repeat(4)
+    /// The leaves of a root that is split. In version 1 the face is In in the low half of x, and Single in the high half;
+    /// in version 2 it is Single in the low half, and Out in the high half. In gives the first class, Out the second, and
+    /// where it is Single the leaf is gray.
+    fn halves(version: Version, [if_in, if_out]: [u8; 2]) -> Vec<[u8; LEAF]> {
+        let half = |class| [1, class, 0];
+        match version {
+            One => [half(if_in), half(4)].repeat(4),
+            Two => [half(4), half(if_out)].repeat(4),
+        }
+    }
+
+    /// The maps in each version: by the new rule at depths 1 and 0, one leaf; by this one, the halves and one gray leaf.
+    fn are_one_leaf(joined: &[Record], leaf: [u8; LEAF], decided: [u8; 2]) {
+        for version in VERSIONS {
+            let split = halves(version, decided);
+            assert_eq!(leaves(version, joined, 1), [vec![leaf], split]);
+            assert_eq!(leaves(version, joined, 0), [vec![leaf], vec![GRAY]]);
+        }
+    }
+
+    /// The maps in each version, which are the same by both rules.
+    fn are_halves(joined: &[Record], decided: [u8; 2]) {
+        for version in VERSIONS {
+            let split = halves(version, decided);
+            assert_eq!(leaves(version, joined, 1), [split.clone(), split]);
+            assert_eq!(leaves(version, joined, 0), [[GRAY], [GRAY]]);
+        }
     }
 
     const GRAY: [u8; LEAF] = [0, 4, 0];
@@ -111,18 +139,14 @@ mod tests {
     #[test]
     fn a_face_with_itself_is_one_leaf() {
         for joined in [Both(3, 3), Either(3, 3)] {
-            let joined = [joined];
-            assert_eq!(leaves(&joined, 1), [vec![[0, 2, 3]], halves(1)]);
-            assert_eq!(leaves(&joined, 0), [[0, 2, 3], GRAY].map(|leaf| vec![leaf]));
+            are_one_leaf(&[joined], [0, 2, 3], [1, 0]);
         }
     }
 
     #[test]
     fn a_complement_with_itself_is_one_leaf() {
         for joined in [Both(4, 4), Either(4, 4)] {
-            let joined = [Complement(3), joined];
-            assert_eq!(leaves(&joined, 1), [vec![[0, 3, 3]], halves(0)]);
-            assert_eq!(leaves(&joined, 0), [[0, 3, 3], GRAY].map(|leaf| vec![leaf]));
+            are_one_leaf(&[Complement(3), joined], [0, 3, 3], [0, 1]);
         }
     }
 
@@ -135,24 +159,18 @@ mod tests {
             (Either(4, 3), 1),
         ];
         for (joined, class) in all {
-            let joined = [Complement(3), joined];
-            let one = [0, class, 0];
-            assert_eq!(leaves(&joined, 1), [vec![one], halves(class)]);
-            assert_eq!(leaves(&joined, 0), [one, GRAY].map(|leaf| vec![leaf]));
+            are_one_leaf(&[Complement(3), joined], [0, class, 0], [class, class]);
         }
     }
 
     #[test]
     fn two_faces_over_one_operand_are_two() {
         for joined in [Both(3, 4), Either(3, 4)] {
-            let joined = [Face(2), joined];
-            assert_eq!(leaves(&joined, 1), [halves(1), halves(1)]);
-            assert_eq!(leaves(&joined, 0), [[GRAY], [GRAY]]);
+            are_halves(&[Face(2), joined], [1, 0]);
         }
         // Neither is decided with the other's complement.
-        for (joined, low) in [(Both(3, 5), 0), (Either(5, 3), 1)] {
-            let joined = [Face(2), Complement(4), joined];
-            assert_eq!(leaves(&joined, 1), [halves(low), halves(low)]);
+        for (joined, class) in [(Both(3, 5), 0), (Either(5, 3), 1)] {
+            are_halves(&[Face(2), Complement(4), joined], [class, class]);
         }
     }
 
@@ -160,11 +178,8 @@ mod tests {
     /// both with a record that holds everywhere.
     #[test]
     fn a_face_is_followed_through_other_records() {
-        let passed_on = [Complement(3), Complement(4), Constant(0), Face(6)];
+        let passed_on = [Complement(3), Complement(4), Constant(-1), Face(6)];
         let joined = [Both(3, 7), Either(5, 8)];
-        assert_eq!(
-            leaves(&[&passed_on[..], &joined].concat(), 1),
-            [vec![[0, 2, 3]], halves(1)]
-        );
+        are_one_leaf(&[&passed_on[..], &joined].concat(), [0, 2, 3], [1, 0]);
     }
 }

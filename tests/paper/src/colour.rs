@@ -3,8 +3,9 @@
 use crate::bounds::{self, Interval};
 use crate::root::Cube;
 use crate::sheet::{
-    Record::{self, *},
+    Record::*,
     Sheet,
+    Version::{self, *},
 };
 
 /// The state of a logical record over a cube. A face is known by its record number.
@@ -32,10 +33,16 @@ pub struct Colour {
     pub face: u8,
 }
 
-pub fn face(number: usize, bounds: Interval) -> State {
-    if bounds.high <= 0 {
+/// Document 01 for version 1. Request 2026-07 for version 2: "In if b < 0, Out if a >= 0, otherwise Single."
+pub fn face(version: Version, number: usize, bounds: Interval) -> State {
+    let Interval { low: a, high: b } = bounds;
+    let (is_in, is_out) = match version {
+        One => (b <= 0, a > 0),
+        Two => (b < 0, a >= 0),
+    };
+    if is_in {
         In
-    } else if bounds.low > 0 {
+    } else if is_out {
         Out
     } else {
         Single(number)
@@ -79,28 +86,32 @@ pub fn either(p: State, q: State) -> State {
 
 /// The rules for states. They are a parameter of colouring, so that a test can colour by others.
 pub struct Rules<'a> {
+    pub face: &'a dyn Fn(Version, usize, Interval) -> State,
     pub both: &'a dyn Fn(State, State) -> State,
     pub either: &'a dyn Fn(State, State) -> State,
     pub complement: &'a dyn Fn(State) -> State,
 }
 
 pub const RULES: Rules = Rules {
+    face: &face,
     both: &both,
     either: &either,
     complement: &complement,
 };
 
-/// The state of a record with its number, from the bounds of all records and the states of those before it; None if it
-/// is arithmetic.
+/// The state of a sheet's record with this number, from the bounds of all records and the states of those before it;
+/// None if it is arithmetic.
 pub fn state(
     rules: &Rules,
-    (number, record): (usize, &Record),
+    sheet: &Sheet,
+    number: usize,
     bounds: &[Option<Interval>],
     before: &[Option<State>],
 ) -> Option<State> {
     let of = |p: usize| before[p].expect("an operand is logical");
-    match *record {
-        Face(a) => Some(face(number, bounds[a].expect("an operand is arithmetic"))),
+    let bounds_of = |a: usize| bounds[a].expect("an operand is arithmetic");
+    match sheet.records[number] {
+        Face(a) => Some((rules.face)(sheet.version, number, bounds_of(a))),
         Both(p, q) => Some((rules.both)(of(p), of(q))),
         Either(p, q) => Some((rules.either)(of(p), of(q))),
         Complement(p) => Some((rules.complement)(of(p))),
@@ -111,8 +122,8 @@ pub fn state(
 /// The states of all records, from their bounds.
 pub fn states(rules: &Rules, sheet: &Sheet, bounds: &[Option<Interval>]) -> Vec<Option<State>> {
     let mut states = Vec::new();
-    for numbered in sheet.records.iter().enumerate() {
-        states.push(state(rules, numbered, bounds, &states));
+    for number in 0..sheet.records.len() {
+        states.push(state(rules, sheet, number, bounds, &states));
     }
     states
 }

@@ -1,7 +1,11 @@
 //! "Fractions": what a sheet means at a point.
 
 use crate::root::Cube;
-use crate::sheet::{Record::*, Sheet};
+use crate::sheet::{
+    Record::*,
+    Sheet,
+    Version::{self, *},
+};
 use crate::whole::Whole;
 
 /// Three whole numerators over one positive whole denominator.
@@ -82,6 +86,14 @@ fn negative(a: &Fraction) -> Fraction {
     }
 }
 
+/// Kind 16: a is at most 0 in version 1, and less than 0 in version 2.
+fn satisfies(version: Version, a: &Whole) -> bool {
+    match version {
+        One => !a.is_positive(),
+        Two => a.is_negative(),
+    }
+}
+
 impl Values {
     /// Computes all records of a sheet.
     pub fn at(sheet: &Sheet, point: &Point) -> Values {
@@ -101,7 +113,7 @@ impl Values {
                 Difference(a, b) => Value::Number(point.sum(number(a), &negative(number(b)))),
                 Product(a, b) => Value::Number(product(number(a), number(b))),
                 Square(a) => Value::Number(product(number(a), number(a))),
-                Face(a) => Value::Holds(!number(a).numerator.is_positive()),
+                Face(a) => Value::Holds(satisfies(sheet.version, &number(a).numerator)),
                 Both(p, q) => Value::Holds(holds(p) && holds(q)),
                 Either(p, q) => Value::Holds(holds(p) || holds(q)),
                 Complement(p) => Value::Holds(!holds(p)),
@@ -116,6 +128,12 @@ impl Values {
             Value::Number(fraction) => fraction,
             Value::Holds(_) => panic!("record {a} is logical"),
         }
+    }
+
+    /// Whether an arithmetic record is 0 at the point.
+    pub fn is_zero(&self, a: usize) -> bool {
+        let numerator = &self.number(a).numerator;
+        !numerator.is_positive() && !numerator.is_negative()
     }
 
     /// Whether the point satisfies a logical record.
@@ -135,6 +153,7 @@ impl Values {
 #[cfg(test)]
 mod tests {
     use super::*;
+    use crate::sheet::VERSIONS;
 
     fn point(numerators: [i64; 3], denominator: i64) -> Point {
         Point {
@@ -143,27 +162,37 @@ mod tests {
         }
     }
 
-    /// x² at most 2 around its root: 14142/10000 is inside and 14143/10000 is not.
+    /// x² at most 2 around its root, or less than 2: 14142/10000 is inside and 14143/10000 is not.
     #[test]
     fn exact_beside_a_root() {
-        let records = vec![X, Square(0), Constant(2), Difference(1, 2), Face(3)];
-        let sheet = Sheet { records };
-        let is_inside = |x| Values::at(&sheet, &point([x, 0, 0], 10_000)).is_inside();
-        assert!(is_inside(14_142) && !is_inside(14_143));
-        assert!(is_inside(-14_142) && !is_inside(-14_143));
+        for version in VERSIONS {
+            let records = vec![X, Square(0), Constant(2), Difference(1, 2), Face(3)];
+            let sheet = Sheet { version, records };
+            let is_inside = |x| Values::at(&sheet, &point([x, 0, 0], 10_000)).is_inside();
+            assert!(is_inside(14_142) && !is_inside(14_143));
+            assert!(is_inside(-14_142) && !is_inside(-14_143));
+        }
     }
 
-    /// A point on a face satisfies it: x + y = z at 1/3, 1/6, 1/2, and one step off the face.
+    /// A point on a face satisfies it in version 1 and not in version 2: x + y = z at 1/3, 1/6, 1/2. One step off the face
+    /// the versions agree.
     #[test]
     fn on_a_face_and_beside() {
-        let sum_less_z = vec![X, Y, Z, Sum(0, 1), Difference(3, 2)];
-        let logical = [Face(4), Complement(5), Either(5, 6), Both(5, 6)];
-        let records = [sum_less_z.as_slice(), &logical].concat();
-        let sheet = Sheet { records };
-        let on = Values::at(&sheet, &point([2, 1, 3], 6));
-        assert!(on.holds(5) && !on.holds(6) && on.holds(7) && !on.is_inside());
-        let beside = Values::at(&sheet, &point([20_001, 10_000, 30_000], 60_000));
-        assert!(!beside.holds(5) && beside.holds(6));
+        for (version, on_face) in [(One, true), (Two, false)] {
+            let sum_less_z = vec![X, Y, Z, Sum(0, 1), Difference(3, 2)];
+            let logical = [Face(4), Complement(5), Either(5, 6), Both(5, 6)];
+            let records = [sum_less_z.as_slice(), &logical].concat();
+            let sheet = Sheet { version, records };
+            let at = |x| Values::at(&sheet, &point([x, 10_000, 30_000], 60_000));
+            let (outside, on, inside) = (at(20_001), at(20_000), at(19_999));
+            assert!(on.is_zero(4) && !outside.is_zero(4) && !inside.is_zero(4));
+            assert_eq!([on.holds(5), on.holds(6)], [on_face, !on_face]);
+            assert!(!outside.holds(5) && outside.holds(6));
+            assert!(inside.holds(5) && !inside.holds(6));
+            for any in [outside, on, inside] {
+                assert!(any.holds(7) && !any.is_inside());
+            }
+        }
     }
 
     /// Closed cubes include their high planes, and nothing beyond.

@@ -19,6 +19,8 @@ pub mod whole;
 
 #[cfg(test)]
 mod rows;
+#[cfg(test)]
+mod rows_07;
 
 /// What a call returns: a code of the table "Replies, in order of test", and the number with it.
 #[derive(Clone, Copy, Debug, PartialEq, Eq)]

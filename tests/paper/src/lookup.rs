@@ -13,8 +13,8 @@ pub const UNDECIDED: usize = 2;
 
 /// A sheet and a map that pass every test before reply 10.
 pub struct Opened {
-    sheet: Sheet,
-    map: Map,
+    pub sheet: Sheet,
+    pub map: Map,
 }
 
 /// Looks a point up.
@@ -39,11 +39,15 @@ impl Opened {
         if !self.map.root.cube().holds(point) {
             return reply(10, 0);
         }
-        let mut cubes = self.map.cubes();
-        let (_, leaf) = cubes
-            .find(|(cube, _)| cube.holds(point))
-            .expect("each whole point of the root is in one leaf");
+        let leaf = self.leaf(point);
+        let leaf = leaf.expect("each whole point of the root is in one leaf");
         reply(0, self.by_leaf(leaf, point))
+    }
+
+    /// The leaf that holds a point.
+    pub fn leaf(&self, point: [i32; 3]) -> Option<Leaf> {
+        let mut cubes = self.map.cubes();
+        cubes.find_map(|(cube, leaf)| cube.holds(point).then_some(leaf))
     }
 
     fn by_leaf(&self, leaf: Leaf, point: [i32; 3]) -> usize {

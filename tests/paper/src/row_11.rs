@@ -72,7 +72,11 @@ mod tests {
     use super::*;
     use crate::bounds::FURTHEST;
     use crate::build;
-    use crate::sheet::Record::{self, *};
+    use crate::sheet::{
+        Record::{self, *},
+        Version::One,
+        VERSIONS,
+    };
 
     const ROOT: Root = Root {
         low: [0, 0, 0],
@@ -86,7 +90,7 @@ mod tests {
 
     /// The row refuses with this number.
     fn refused(limit: i128, records: &[Record], number: usize) {
-        let map = map_of(limit, &sheet::write(records), &ROOT).0;
+        let map = map_of(limit, &sheet::write(One, records), &ROOT).0;
         assert_eq!(map, Err(reply(CODE, number)));
     }
 
@@ -104,9 +108,11 @@ mod tests {
 
     #[test]
     fn the_map_is_the_same() {
-        let sheet = sheet::write(&STEP);
-        let map = build::map_of(&sheet, &ROOT);
-        assert_eq!(map_of(FURTHEST, &sheet, &ROOT), (map, tested(24, 0)));
+        for version in VERSIONS {
+            let sheet = sheet::write(version, &STEP);
+            let map = build::map_of(&sheet, &ROOT);
+            assert_eq!(map_of(FURTHEST, &sheet, &ROOT), (map, tested(24, 0)));
+        }
     }
 
     #[test]
@@ -131,7 +137,7 @@ mod tests {
     fn bounds_at_the_limit_are_accepted() {
         let cubed = [X, Square(0), Product(1, 0), Y];
         let planes = [Constant((1 << 20) - 1), Difference(0, 4), Face(5), Face(3)];
-        let sheet = sheet::write(&[&cubed[..], &planes, &[Both(6, 7)]].concat());
+        let sheet = sheet::write(One, &[&cubed[..], &planes, &[Both(6, 7)]].concat());
         let root = Root {
             low: [(1 << 20) - 2, -1, 0],
             k: 1,
@@ -145,7 +151,7 @@ mod tests {
 
     #[test]
     fn the_root_comes_first() {
-        let sheet = sheet::write(&[Constant(i32::MIN), Square(0), Face(1)]);
+        let sheet = sheet::write(One, &[Constant(i32::MIN), Square(0), Face(1)]);
         let refused = (Err(reply(7, 2)), tested(0, 0));
         assert_eq!(map_of(0, &sheet, &ROOT), refused);
     }

@@ -7,18 +7,18 @@ use crate::colour::{self, State};
 use crate::lookup::{lookup, INSIDE, OUTSIDE, UNDECIDED};
 use crate::map::open;
 use crate::root::{Cube, Root};
-use crate::sheet::{self, check, Record, Record::*, Sheet};
+use crate::sheet::{self, check, Record, Record::*, Sheet, Version::One};
 use crate::{reply, Reply};
 
 /// The bytes of a hex string.
-fn hex(text: &str) -> Vec<u8> {
+pub fn hex(text: &str) -> Vec<u8> {
     let digits: Vec<u8> = text.bytes().filter(|c| !c.is_ascii_whitespace()).collect();
     let byte = |two: &[u8]| u8::from_str_radix(std::str::from_utf8(two).unwrap(), 16).unwrap();
     digits.chunks(2).map(byte).collect()
 }
 
 /// The step room's sheet.
-fn s() -> Vec<u8> {
+pub fn s() -> Vec<u8> {
     hex("00 1D 01 01 02 01 03 05 01 00 00 00 02 03 06 00 02 03 06 01 02 02 10 03 02 10 04 03 11 05 06")
 }
 
@@ -26,22 +26,22 @@ fn s() -> Vec<u8> {
 const HALF: &str = "01 01 00 01 02 05 01 02 06 01 04 00";
 
 /// The step room's map at d 1.
-fn step_room() -> Vec<u8> {
+pub fn step_room() -> Vec<u8> {
     let header = "00 00 00 27 01 00 00 00 00 00 00 00 00 00 00 00 00 02 01";
     hex(&[header, HALF, HALF].concat())
 }
 
-fn root(x: i32, k: u8, d: u8) -> Root {
+pub fn root(x: i32, k: u8, d: u8) -> Root {
     let low = [x, 0, 0];
     Root { low, k, d }
 }
 
 /// The leaves of a map's bytes.
-fn leaves(map: &[u8]) -> &[u8] {
+pub fn leaves(map: &[u8]) -> &[u8] {
     &map[19..]
 }
 
-fn is(given: Reply, code: u32, number: usize) {
+pub fn is(given: Reply, code: u32, number: usize) {
     assert_eq!(given, reply(code, number));
 }
 
@@ -90,7 +90,8 @@ fn bounds_of_the_rows() {
         side: 2,
         level: 0,
     };
-    let bounds = over(&Sheet { records }, &cube);
+    let version = One;
+    let bounds = over(&Sheet { version, records }, &cube);
     assert_eq!(bounds[3], Some(interval(16, 36)));
     let x = interval(-3, 2);
     assert_eq!(x.square(), interval(0, 9));
@@ -101,14 +102,14 @@ fn bounds_of_the_rows() {
 
 #[test]
 fn states_of_the_rows() {
-    assert_eq!(colour::face(5, interval(-2, 0)), State::In);
-    assert_eq!(colour::face(5, interval(0, 2)), State::Single(5));
-    assert_eq!(colour::face(5, interval(1, 2)), State::Out);
+    assert_eq!(colour::face(One, 5, interval(-2, 0)), State::In);
+    assert_eq!(colour::face(One, 5, interval(0, 2)), State::Single(5));
+    assert_eq!(colour::face(One, 5, interval(1, 2)), State::Out);
 }
 
 #[test]
 fn a_single_face_gives_one_leaf_at_any_depth() {
-    let sheet = sheet::write(&[X, Face(0)]);
+    let sheet = sheet::write(One, &[X, Face(0)]);
     for d in 0..=10 {
         let map = map_of(&sheet, &root(0, 16, d)).unwrap();
         assert_eq!(leaves(&map), [0, 2, 1]);
@@ -118,12 +119,12 @@ fn a_single_face_gives_one_leaf_at_any_depth() {
 #[test]
 fn the_limit_is_reached_and_passed() {
     let reached = [X, Square(0), Product(1, 0), Face(2)];
-    let map = map_of(&sheet::write(&reached), &root(1048575, 0, 0)).unwrap();
+    let map = map_of(&sheet::write(One, &reached), &root(1048575, 0, 0)).unwrap();
     assert_eq!(map.len(), 22);
     let passed = [X, Square(0), Product(1, 0), Sum(2, 0), Face(3)];
     let mut out = [7; 22];
     is(
-        build(&sheet::write(&passed), &root(1048575, 0, 0), &mut out),
+        build(&sheet::write(One, &passed), &root(1048575, 0, 0), &mut out),
         7,
         7,
     );
@@ -147,7 +148,7 @@ const AT_THE_LIMIT: [Record; 9] = [
 /// the step room.
 fn with_more(more: &[Record]) -> [Reply; 2] {
     let records = [&AT_THE_LIMIT[..], more, &[Face(0)]].concat();
-    let (sheet, root) = (sheet::write(&records), root(0, 0, 0));
+    let (sheet, root) = (sheet::write(One, &records), root(0, 0, 0));
     let map = map_of(&s(), &root).unwrap();
     [
         build(&sheet, &root, &mut [0; 22]),
@@ -162,7 +163,8 @@ fn refused_by_7(more: &[Record], number: usize) {
 #[test]
 fn the_limit_itself_is_accepted_at_both_ends() {
     let records = AT_THE_LIMIT.to_vec();
-    let bounds = over(&Sheet { records }, &root(0, 0, 0).cube());
+    let version = One;
+    let bounds = over(&Sheet { version, records }, &root(0, 0, 0).cube());
     assert_eq!(bounds[8], Some(interval(-FURTHEST, FURTHEST)));
     assert_eq!(with_more(&[]), [reply(0, 22), reply(0, INSIDE)]);
 }
@@ -197,7 +199,7 @@ fn the_first_record_decides_and_then_its_end() {
 #[test]
 fn sheets_that_are_good() {
     is(check(&s()), 0, 8);
-    is(check(&sheet::write(&[Z, Face(0)])), 0, 2);
+    is(check(&sheet::write(One, &[Z, Face(0)])), 0, 2);
 }
 
 #[test]
@@ -206,7 +208,9 @@ fn sheets_that_are_refused() {
     is(refused(""), 1, 0);
     is(refused("00 00"), 1, 0);
     is(refused("00 02 01"), 1, 0);
-    is(refused("00 01 02"), 2, 0);
+    is(refused("00 01 00"), 2, 0);
+    is(refused("00 01 03"), 2, 0);
+    is(refused("00 01 FF"), 2, 0);
     is(refused("00 01 01"), 5, 0);
     is(refused("00 03 01 01 02"), 5, 1);
     is(refused("00 02 01 00"), 3, 3);
@@ -225,8 +229,8 @@ fn sheets_that_are_refused() {
 fn at_most_256_records() {
     let mut records = vec![X; 255];
     records.push(Face(0));
-    is(check(&sheet::write(&records)), 0, 256);
-    let mut one_more = sheet::write(&records);
+    is(check(&sheet::write(One, &records)), 0, 256);
+    let mut one_more = sheet::write(One, &records);
     let length = one_more.len();
     one_more.push(200);
     one_more[..2].copy_from_slice(&(length as u16 - 1).to_be_bytes());
@@ -299,7 +303,7 @@ fn only_lookup_asks_whether_a_terminal_leaf_names_a_face() {
 
 #[test]
 fn a_complement_turns_the_answer_over() {
-    let sheet = sheet::write(&[X, Face(0), Complement(1)]);
+    let sheet = sheet::write(One, &[X, Face(0), Complement(1)]);
     let map = map_of(&sheet, &root(-4, 3, 3)).unwrap();
     assert_eq!(leaves(&map), [0, 3, 1]);
     is(lookup(&sheet, &map, [0, 1, 1]), 0, OUTSIDE);
@@ -308,7 +312,7 @@ fn a_complement_turns_the_answer_over() {
 
 #[test]
 fn lookup_refuses_by_9_before_7_before_10() {
-    let sheet = sheet::write(&[Constant(i32::MIN), Square(0), Face(1)]);
+    let sheet = sheet::write(One, &[Constant(i32::MIN), Square(0), Face(1)]);
     let far = [i32::MAX; 3];
     let good = map_of(&s(), &root(0, 2, 0)).unwrap();
     is(lookup(&sheet, &good[..21], far), 9, 0);

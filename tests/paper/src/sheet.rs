@@ -28,14 +28,31 @@ pub enum Sort {
     Logical,
 }
 
-/// The records of a sheet that no reply refuses. The last is the solid.
+/// Byte 2 of a sheet. It decides what kind 16 means (request 2026-07), and nothing else.
+#[derive(Clone, Copy, Debug, PartialEq, Eq)]
+pub enum Version {
+    One = 1,
+    Two = 2,
+}
+
+pub const VERSIONS: [Version; 2] = [Version::One, Version::Two];
+
+/// The version and the records of a sheet that no reply refuses. The last record is the solid.
 #[derive(Clone, Debug, PartialEq, Eq)]
 pub struct Sheet {
+    pub version: Version,
     pub records: Vec<Record>,
 }
 
 pub const MOST_RECORDS: usize = 256;
 const FIRST_RECORD: usize = 3;
+
+impl Version {
+    /// The version of a byte, if it is 1 or 2.
+    fn read(byte: u8) -> Option<Version> {
+        VERSIONS.into_iter().find(|&version| version as u8 == byte)
+    }
+}
 
 impl Record {
     /// The table of kinds, by the bytes after a record's count byte. None for an unknown kind or a wrong count.
@@ -122,15 +139,13 @@ pub fn read(bytes: &[u8]) -> Result<Sheet, Refusal> {
     if bytes.len() < 3 || usize::from(u16::from_be_bytes([bytes[0], bytes[1]])) != bytes.len() - 2 {
         return Err(reply(1, 0));
     }
-    if bytes[2] != 1 {
-        return Err(reply(2, 0));
-    }
+    let version = Version::read(bytes[2]).ok_or(reply(2, 0))?;
     let records = framed(bytes)?;
     if let Some(bad) = (0..records.len()).find(|&number| !operands_are_good(&records, number)) {
         return Err(reply(4, bad));
     }
     match records.last() {
-        Some(solid) if solid.sort() == Sort::Logical => Ok(Sheet { records }),
+        Some(solid) if solid.sort() == Sort::Logical => Ok(Sheet { version, records }),
         _ => Err(reply(5, records.len())),
     }
 }
@@ -159,8 +174,8 @@ fn operands_are_good(records: &[Record], number: usize) -> bool {
 }
 
 /// The bytes of a sheet with these records, good or not.
-pub fn write(records: &[Record]) -> Vec<u8> {
-    let mut body = vec![1];
+pub fn write(version: Version, records: &[Record]) -> Vec<u8> {
+    let mut body = vec![version as u8];
     for record in records {
         let counted = record.write();
         body.push(counted.len() as u8);

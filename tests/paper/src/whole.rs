@@ -29,6 +29,10 @@ impl Whole {
         !self.negative && !self.digits.is_empty()
     }
 
+    pub fn is_negative(&self) -> bool {
+        self.negative
+    }
+
     pub fn negative(&self) -> Whole {
         Whole::of(!self.negative, self.digits.clone())
     }
@@ -126,6 +130,7 @@ mod tests {
                 assert_eq!(Whole::from(a).times(&Whole::from(b)), of(wide_a * wide_b));
                 assert_eq!(Whole::from(a).negative(), of(-wide_a));
                 assert_eq!(Whole::from(a).is_positive(), a > 0);
+                assert_eq!(Whole::from(a).is_negative(), a < 0);
             }
         }
     }

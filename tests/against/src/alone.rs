@@ -37,7 +37,7 @@ pub fn check(_: u64, random: &mut Random) -> Made {
             (plan.label, plan.bytes())
         }
         3 => ("sheet: random bytes", random_sheet(random)),
-        _ => damage_sheets::damaged(&builds::sound(random).records, random),
+        _ => damage_sheets::damaged(&builds::sound(random).sheet(), random),
     };
     Made {
         labels: vec![label],
@@ -45,12 +45,13 @@ pub fn check(_: u64, random: &mut Random) -> Made {
     }
 }
 
-/// Random bytes of small value, mostly with the right length and version.
+/// Random bytes of small value, mostly with the right length and a version that is read.
 fn random_sheet(random: &mut Random) -> Vec<u8> {
     let length = random.below(40);
     let mut sheet: Vec<u8> = (0..length).map(|_| random.below(20) as u8).collect();
     if length > 2 && !random.once_in(8) {
-        sheet[..3].copy_from_slice(&[0, length as u8 - 2, 1]);
+        let version = plan::version(random) as u8;
+        sheet[..3].copy_from_slice(&[0, length as u8 - 2, version]);
     }
     sheet
 }

@@ -84,7 +84,7 @@ impl Pair {
 }
 
 /// Whole points of some leaves, and others in and around the root.
-fn whole_points(map: &Built, random: &mut Random) -> Vec<[i32; 3]> {
+pub fn whole_points(map: &Built, random: &mut Random) -> Vec<[i32; 3]> {
     let mut points = Vec::new();
     for _ in 0..IN_LEAVES {
         let (cube, _) = map.leaves[random.below(map.leaves.len())];
@@ -227,7 +227,7 @@ impl Found {
             (
                 format!(
                     "maps of before 2026-03, calls: {} maps opened, {} lookups as the paper says",
-                    counts.maps, self.lookups
+                    counts.maps.iter().sum::<u64>(), self.lookups
                 ),
                 self.lookup.is_none(),
             ),

@@ -76,7 +76,7 @@ pub fn most_leaves(random: &mut Random) -> usize {
 
 fn damaged(random: &mut Random) -> Made {
     let mut plan = sound(random);
-    let (label, sheet) = damage_sheets::damaged(&plan.records, random);
+    let (label, sheet) = damage_sheets::damaged(&plan.sheet(), random);
     plan.root.d = plan.root.k.min(10);
     let root = plan::shallow(&sheet, &plan.root, 250);
     let some = length(random.below(250));

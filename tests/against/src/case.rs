@@ -126,6 +126,18 @@ impl Case {
         }
     }
 
+    /// The case with its sheet changed, if the call takes one.
+    pub fn with_sheet(&self, change: impl FnOnce(&mut Vec<u8>)) -> Case {
+        let mut other = self.clone();
+        match &mut other {
+            Case::Check(lent) => change(&mut lent.bytes),
+            Case::Build(build) => change(&mut build.sheet),
+            Case::Open(_) => (),
+            Case::Lookup(lookup) => change(&mut lookup.sheet),
+        }
+        other
+    }
+
     /// The root that bounds are worked out over, if the call has one and it is in limits.
     pub fn root(&self) -> Option<Root> {
         let root = match self {

@@ -1,74 +1,19 @@
 //! The checks of a run, each of which counts as one.
 
-use crate::alone;
 use crate::before_03;
-use crate::builds;
 use crate::case::{Call, Case, CALLS};
 use crate::demand3_run;
-use crate::ends;
-use crate::every_byte;
-use crate::group::{report, Group, Make, Setup};
-use crate::lookups::{self, POINTS};
-use crate::products;
+use crate::group::{report, Setup};
 use crate::relations;
 use crate::row_11;
 use crate::server::{Server, TRESPASSES};
+use crate::sizes::{groups, Sizes};
 use crate::slips::slips;
 use crate::tally::Tally;
+use crate::version_maps;
+use crate::versions;
 use crate::wrong_before;
 use std::time::Instant;
-
-/// The number of random calls of each sort.
-pub struct Sizes {
-    pub checks: u64,
-    pub builds: u64,
-    pub opens: u64,
-    pub lookups: u64,
-}
-
-impl Sizes {
-    /// The number of damaged sheets, and of damaged maps, besides those with a single byte changed.
-    fn damaged(&self) -> u64 {
-        self.builds / 5
-    }
-
-    /// The number of builds and lookups that the relations between calls are tested on.
-    fn related(&self) -> u64 {
-        self.builds / 4
-    }
-
-    /// The number of sheets that demand 3 is tested on.
-    fn sheets(&self) -> u64 {
-        self.builds / 50
-    }
-
-    /// The number of sheets whose maps by the rule before request 2026-03 are tested.
-    fn sheets_before(&self) -> u64 {
-        self.builds / 80
-    }
-
-    /// The number of maps with a leaf turned over.
-    fn turned_over(&self) -> u64 {
-        self.builds / 200
-    }
-}
-
-fn groups(sizes: &Sizes) -> [Group; 8] {
-    let group = |name, make: Make, cases| Group { name, make, cases };
-    let lookup_cases = sizes.lookups.div_ceil(POINTS as u64);
-    let sheet_cases = every_byte::sheet_cases() + sizes.damaged();
-    let map_cases = every_byte::map_cases() + sizes.damaged();
-    [
-        group("checks", alone::check, sizes.checks),
-        group("builds", builds::any, sizes.builds),
-        group("opens", alone::open, sizes.opens),
-        group("lookups", lookups::any, lookup_cases),
-        group("damaged sheets", every_byte::sheets, sheet_cases),
-        group("damaged maps", every_byte::maps, map_cases),
-        group("products", products::any, products::cases()),
-        group("ends", ends::any, ends::cases()),
-    ]
-}
 
 /// A run of all checks: the numbers passed and failed so far, and what was covered.
 struct Run<'a> {
@@ -82,13 +27,15 @@ struct Run<'a> {
 
 type Check = fn(&mut Run) -> Result<(), String>;
 
-const CHECKS: [(&str, Check); 10] = [
+const CHECKS: [(&str, Check); 12] = [
     ("guard pages", guard_pages),
     ("comparison", comparison),
     ("codes reached", codes_reached),
     ("faces met", faces_met),
+    ("versions met", versions_met),
     ("row 11", row_11),
     ("relations", relations),
+    ("versions", both_versions),
     ("wrong rules", wrong_rules),
     ("demand 3", demand_3),
     ("wrong maps", wrong_maps),
@@ -192,6 +139,15 @@ fn faces_met(run: &mut Run) -> Result<(), String> {
     Ok(())
 }
 
+/// Each call that takes a sheet had one of every version, and both versions met every case of request 2026-07.
+fn versions_met(run: &mut Run) -> Result<(), String> {
+    let calls = [Call::Check, Call::Build, Call::Lookup];
+    let all = calls.map(|call| run.covered.reached_all_versions(call));
+    let what = "versions met: each call had sheets of versions 0, 1, 2, 3 and 255, and versions 1 and 2 bounds that end at 0, are 0 and begin at 0, and points on the face of their leaf";
+    run.count(what, all == [true; 3] && run.covered.met_all_zeros());
+    Ok(())
+}
+
 /// The library's builds are those of document 01's table with row 11 too, and the row refuses none. A lower limit,
 /// by which it does, is noticed.
 fn row_11(run: &mut Run) -> Result<(), String> {
@@ -237,6 +193,20 @@ fn relations(run: &mut Run) -> Result<(), String> {
     Ok(())
 }
 
+/// Equal records in both versions: what is alike, and where it differs.
+fn both_versions(run: &mut Run) -> Result<(), String> {
+    let held = versions::run(run.setup, run.sizes.related())?;
+    if let Some(told) = &held.broken {
+        println!("VERSIONS: {told}");
+    }
+    let found = version_maps::run(run.setup, run.sizes.sheets())?;
+    found.print();
+    for (what, good) in [held.line()].into_iter().chain(found.lines()) {
+        run.count(&what, good);
+    }
+    Ok(())
+}
+
 /// The comparison that found no difference notices each wrong rule.
 fn wrong_rules(run: &mut Run) -> Result<(), String> {
     let (mut noticed, mut of) = (0, 0);
@@ -261,7 +231,8 @@ fn demand_3(run: &mut Run) -> Result<(), String> {
     found.print();
     let counts = found.counts;
     let what = format!("demand 3, points: {} points agree", counts.points);
-    run.count(&what, found.point.is_none());
+    let in_both = !counts.maps.contains(&0) && !counts.on_faces.contains(&0);
+    run.count(&what, found.point.is_none() && in_both);
     let what = format!(
         "demand 3, no touch: {} white and black of one map, {} of two",
         counts.pairs, counts.pairs_of_two_maps
@@ -275,7 +246,7 @@ fn wrong_maps(run: &mut Run) -> Result<(), String> {
     let (turned, noticed) = demand3_run::turned_over(run.setup, run.sizes.turned_over())?;
     let strip = demand3_run::strip_is_noticed()?;
     let touch = demand3_run::touch_is_noticed()?;
-    println!("    the strip between corners: {strip}; [0, 2] called Out touches: {touch}");
+    println!("    the strip between corners: {strip}; [0, 2] called Out in version 1 touches, and [-2, 0] called In in version 2: {touch}");
     let what = format!("wrong maps: {noticed} of {turned} leaves turned over are noticed");
     run.count(&what, strip && touch && turned > 0 && noticed == turned);
     Ok(())

@@ -1,7 +1,7 @@
 //! Damaged sheets, byte by byte and field by field.
 
 use crate::random::Random;
-use paper::sheet::{self, Record, MOST_RECORDS};
+use paper::sheet::{self, Record, Sheet, MOST_RECORDS};
 
 /// The parts of a sheet, written as they are, whether they agree or not.
 struct Parts {
@@ -22,9 +22,10 @@ enum Length {
 
 type Damage = fn(&mut Parts, &mut Random);
 
-const DAMAGES: [(&str, Damage); 21] = [
+const DAMAGES: [(&str, Damage); 22] = [
     ("sheet: length", length),
     ("sheet: version", version),
+    ("sheet: the other version", other_version),
     ("sheet: kind", kind),
     ("sheet: count", count),
     ("sheet: operand", operand),
@@ -47,14 +48,14 @@ const DAMAGES: [(&str, Damage); 21] = [
 ];
 
 /// Damages a good sheet in one field, in two, or in one byte.
-pub fn damaged(records: &[Record], random: &mut Random) -> (&'static str, Vec<u8>) {
+pub fn damaged(sheet: &Sheet, random: &mut Random) -> (&'static str, Vec<u8>) {
     if random.once_in(6) {
-        let mut bytes = sheet::write(records);
+        let mut bytes = sheet::write(sheet.version, &sheet.records);
         let at = random.below(bytes.len());
         bytes[at] = random.byte();
         return ("sheet: a byte", bytes);
     }
-    let mut parts = Parts::of(records);
+    let mut parts = Parts::of(sheet);
     let (label, damage) = random.pick(&DAMAGES);
     damage(&mut parts, random);
     if random.once_in(4) {
@@ -64,12 +65,15 @@ pub fn damaged(records: &[Record], random: &mut Random) -> (&'static str, Vec<u8
 }
 
 impl Parts {
-    fn of(records: &[Record]) -> Parts {
-        let one = |record: &Record| sheet::write(std::slice::from_ref(record))[3..].to_vec();
+    fn of(sheet: &Sheet) -> Parts {
+        let one = |record: &Record| {
+            let alone = std::slice::from_ref(record);
+            sheet::write(sheet.version, alone)[3..].to_vec()
+        };
         Parts {
             length: Length::Told,
-            version: 1,
-            records: records.iter().map(one).collect(),
+            version: sheet.version as u8,
+            records: sheet.records.iter().map(one).collect(),
             after: vec![],
             cut: None,
         }
@@ -124,7 +128,12 @@ fn length(parts: &mut Parts, random: &mut Random) {
 
 fn version(parts: &mut Parts, random: &mut Random) {
     let any = random.byte();
-    parts.version = random.pick(&[0, 2, 255, any]);
+    parts.version = random.pick(&[0, 3, 255, any]);
+}
+
+/// Version 2 for 1, and 1 for 2: a good sheet, whose faces mean something else.
+fn other_version(parts: &mut Parts, _: &mut Random) {
+    parts.version ^= 3;
 }
 
 fn kind(parts: &mut Parts, random: &mut Random) {

@@ -5,13 +5,13 @@ use crate::case::{hex, Build, Case};
 use crate::plan::{self, Plan};
 use crate::random::Random;
 use crate::server::Server;
-use crate::{graphs, rooms};
+use crate::{graphs, rooms, zeros};
 use paper::build::Colouring;
 use paper::colour::{BLACK, TERMINAL, TERMINAL_COMPLEMENT, WHITE};
 use paper::fractions::{Point, Values};
 use paper::map::{self, Leaf, HEADER, LEAF};
 use paper::root::{Cube, Root};
-use paper::sheet::{Record::*, Sheet};
+use paper::sheet::{Record::*, Sheet, Version};
 use paper::Refusal;
 
 /// A map that was built: its bytes, and its leaves with their cubes.
@@ -57,9 +57,12 @@ impl Built {
 /// How much was tested.
 #[derive(Default)]
 pub struct Counts {
-    pub maps: u64,
+    /// By version of the sheet.
+    pub maps: [u64; 2],
     pub leaves: u64,
     pub points: u64,
+    /// Points at which a face of the solid is 0, by version of the sheet.
+    pub on_faces: [u64; 2],
     /// Pairs of a point and a closed leaf that holds it, by class.
     pub by_class: [u64; 5],
     /// Pairs of a white and a black leaf, of one map and of two.
@@ -69,6 +72,11 @@ pub struct Counts {
     pub roots: [u64; 3],
     /// Pairs of roots of which neither is a cube of the other's grid.
     pub not_aligned: u64,
+}
+
+/// The place of a version among both.
+pub fn place(version: Version) -> usize {
+    version as usize - 1
 }
 
 /// The number of leaves per map from which points are taken.
@@ -188,6 +196,7 @@ pub fn wrong_leaf(
     for point in points {
         let at = Values::at(sheet, point);
         counts.points += 1;
+        counts.on_faces[place(sheet.version)] += u64::from(zeros::is_among(sheet, &at));
         let around = leaves.iter().filter(|(cube, _)| point.is_in_closed(cube));
         for (cube, leaf) in around {
             counts.by_class[usize::from(leaf.colour.class)] += 1;
@@ -213,7 +222,7 @@ pub fn touching(
         .find_map(|white| Some((*white, touched(white)?)))
 }
 
-fn of_class(leaves: &[(Cube, Leaf)], class: u8) -> Vec<Cube> {
+pub fn of_class(leaves: &[(Cube, Leaf)], class: u8) -> Vec<Cube> {
     let of_class = leaves.iter().filter(|(_, leaf)| leaf.colour.class == class);
     of_class.map(|(cube, _)| *cube).collect()
 }

@@ -1,28 +1,29 @@
 //! Runs the checks of demand 3, and runs them on maps that break it, which they must notice.
 
 use crate::case::hex;
-use crate::demand3::{self, built, points_of, touching, wrong_leaf, Built, Counts};
+use crate::demand3::{self, built, place, points_of, touching, wrong_leaf, Built, Counts};
 use crate::group::{on_two_servers, Setup};
 use crate::plan::Plan;
 use crate::random::Random;
 use crate::server::Server;
 use crate::tally::add_each;
-use crate::wrong_builds;
+use crate::{wrong_builds, wrong_versions};
 use paper::build::{map_by, Colouring};
 use paper::colour;
 use paper::fractions::Point;
 use paper::map::{self, Leaf};
 use paper::root::{Cube, Root};
-use paper::sheet::{Record::*, Sheet};
+use paper::sheet::{Record::*, Sheet, Version, Version::*};
 
 impl Counts {
     pub fn add(&mut self, other: &Counts) {
-        self.maps += other.maps;
         self.leaves += other.leaves;
         self.points += other.points;
         self.pairs += other.pairs;
         self.pairs_of_two_maps += other.pairs_of_two_maps;
         self.not_aligned += other.not_aligned;
+        add_each(&mut self.maps, &other.maps);
+        add_each(&mut self.on_faces, &other.on_faces);
         add_each(&mut self.roots, &other.roots);
         add_each(&mut self.by_class, &other.by_class);
     }
@@ -45,7 +46,7 @@ impl Found {
 
     /// Tests points of a map against its leaves.
     pub fn points(&mut self, plan: &Plan, map: &Built, random: &mut Random) {
-        self.counts.maps += 1;
+        self.counts.maps[place(plan.version)] += 1;
         self.counts.leaves += map.leaves.len() as u64;
         let points = map.points(random);
         let wrong = wrong_leaf(&plan.sheet(), &map.leaves, &points, &mut self.counts);
@@ -85,7 +86,11 @@ impl Found {
         }
         let counts = &self.counts;
         let [white, black, terminal, complement, gray] = counts.by_class;
-        println!("    {} maps with {} leaves", counts.maps, counts.leaves);
+        let ([one, two], [on_one, on_two]) = (counts.maps, counts.on_faces);
+        println!(
+            "    {one} maps of version 1 and {two} of version 2, with {} leaves; points on a face of the solid: {on_one} and {on_two}",
+            counts.leaves
+        );
         let [overlapping, adjacent, apart] = counts.roots;
         println!(
             "    two roots of a sheet: {overlapping} overlapping, {adjacent} side by side, {apart} apart; \
@@ -172,8 +177,8 @@ fn wrong_map(colouring: &Colouring, sheet: &Sheet, d: u8) -> Result<Vec<(Cube, L
 pub fn strip_is_noticed() -> Result<bool, String> {
     let mut strip = crate::maker::Maker::default();
     let solid = strip.between(0, 1, 2);
-    let records = strip.with_solid(solid);
-    let sheet = Sheet { records };
+    let (version, records) = (One, strip.with_solid(solid));
+    let sheet = Sheet { version, records };
     let leaves = wrong_map(&wrong_builds::corners, &sheet, 0)?;
     let point = Point {
         numerators: [3, 1, 1],
@@ -182,10 +187,15 @@ pub fn strip_is_noticed() -> Result<bool, String> {
     Ok(wrong_leaf(&sheet, &leaves, &[point], &mut Counts::default()).is_some())
 }
 
-/// With [0, 2] called Out, white at x from 2 to 4 touches black at x from 0 to 2. Two faces make the root gray.
+/// With [0, 2] called Out in version 1, or [-2, 0] called In in version 2, white at x from 2 to 4 touches black at x from 0
+/// to 2. Two faces make the root gray.
 pub fn touch_is_noticed() -> Result<bool, String> {
-    let faces = [X, Constant(2), Difference(0, 1), Face(2), Face(2)];
-    let records = [&faces[..], &[Both(3, 4)]].concat();
-    let leaves = wrong_map(&wrong_builds::zero_out, &Sheet { records }, 1)?;
-    Ok(touching(&leaves, &leaves, &mut 0).is_some())
+    let touches = |version: Version, colouring: &Colouring| -> Result<bool, String> {
+        let faces = [X, Constant(2), Difference(0, 1), Face(2), Face(2)];
+        let records = [&faces[..], &[Both(3, 4)]].concat();
+        let leaves = wrong_map(colouring, &Sheet { version, records }, 1)?;
+        Ok(touching(&leaves, &leaves, &mut 0).is_some())
+    };
+    let one = touches(One, &wrong_builds::zero_out)?;
+    Ok(one && touches(Two, &wrong_versions::zero_in)?)
 }

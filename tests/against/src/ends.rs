@@ -5,6 +5,7 @@ use crate::builds::Made;
 use crate::case::{Case, Lookup, PLACINGS};
 use crate::maker::Maker;
 use crate::maps;
+use crate::plan;
 use crate::products::{self, sign};
 use crate::random::Random;
 use crate::spans::{built, exact, operand, Span, ROOT};
@@ -179,7 +180,7 @@ pub fn any(number: u64, random: &mut Random) -> Made {
 /// The build of a sheet, chosen by number.
 pub fn build(number: u64, random: &mut Random) -> Made {
     let (labels, records) = chosen(number, random);
-    let case = built(sheet::write(&records), random);
+    let case = built(sheet::write(plan::version(random), &records), random);
     Made { labels, case }
 }
 
@@ -188,7 +189,7 @@ pub fn lookup(number: u64, random: &mut Random) -> Made {
     let (labels, records) = chosen(number, random);
     let case = Case::Lookup(Lookup {
         placing: random.below(PLACINGS) as u8,
-        sheet: sheet::write(&records),
+        sheet: sheet::write(plan::version(random), &records),
         map: one_leaf((records.len() - 1) as u8, random),
         points: vec![maps::point(&ROOT, random)],
     });
@@ -235,7 +236,7 @@ mod tests {
     use crate::fault::{Fault, WAYS};
     use crate::group::Make;
     use paper::bounds;
-    use paper::sheet::Sheet;
+    use paper::sheet::{Sheet, Version::One};
 
     /// The cases of one call.
     fn made(make: Make) -> Vec<Case> {
@@ -267,6 +268,7 @@ mod tests {
     fn the_record_that_is_probed_is_the_first_past_the_limit() {
         for probe in ones() {
             let sheet = Sheet {
+                version: One,
                 records: records(&[probe], 1),
             };
             let probed = sheet.records.len() - 2;

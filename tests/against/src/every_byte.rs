@@ -8,10 +8,10 @@ use crate::maker::Maker;
 use crate::maps;
 use crate::plan;
 use crate::random::Random;
-use crate::{damage_maps, damage_sheets};
+use crate::{damage_maps, damage_sheets, versions};
 use paper::build::map_of;
 use paper::root::Root;
-use paper::sheet::{self, Record::*};
+use paper::sheet::{self, Record::*, Version::*};
 
 /// A small sheet and its root; each byte is changed to `values` other values.
 struct Small {
@@ -20,7 +20,7 @@ struct Small {
     values: u64,
 }
 
-fn small() -> [Small; 3] {
+fn small() -> [Small; 4] {
     let root = |low, k, d| Root { low, k, d };
     let step_room = [
         X,
@@ -39,17 +39,22 @@ fn small() -> [Small; 3] {
     let solid = ring.add(Either(around, slab));
     [
         Small {
-            sheet: sheet::write(&step_room),
+            sheet: sheet::write(One, &step_room),
             root: root([0, 0, 0], 2, 1),
             values: 255,
         },
         Small {
-            sheet: sheet::write(&ring.with_solid(solid)),
+            sheet: sheet::write(Two, &step_room),
+            root: root([0, 0, 0], 2, 2),
+            values: 16,
+        },
+        Small {
+            sheet: sheet::write(One, &ring.with_solid(solid)),
             root: root([-4, -4, -4], 3, 2),
             values: 8,
         },
         Small {
-            sheet: sheet::write(&[Z, Square(0), Face(1), Complement(2), Complement(3)]),
+            sheet: sheet::write(Two, &[Z, Square(0), Face(1), Complement(2), Complement(3)]),
             root: root([-8, 5, -3], 3, 3),
             values: 16,
         },
@@ -139,11 +144,19 @@ fn looked_up(sheet: Vec<u8>, map: Vec<u8>, points: Vec<[i32; 3]>, random: &mut R
     })
 }
 
-/// Each point in and around one small map, chosen by number; None past the last.
+/// Each point in and around one small map, chosen by number, with its own sheet and then with that of the other version;
+/// None past the last.
 pub fn points(number: u64, random: &mut Random) -> Option<Made> {
-    let small = small().into_iter().nth(number as usize)?;
-    let labels = vec!["each point about a map"];
-    let case = looked_up(small.sheet.clone(), small.map(), small.points(), random);
+    let small = small().into_iter().nth(number as usize / 2)?;
+    let (label, sheet) = match number % 2 {
+        0 => ("each point about a map", small.sheet.clone()),
+        _ => {
+            let other = versions::other(&small.sheet);
+            ("each point about a map of the other version", other)
+        }
+    };
+    let case = looked_up(sheet, small.map(), small.points(), random);
+    let labels = vec![label];
     Some(Made { labels, case })
 }
 
@@ -190,7 +203,7 @@ pub fn maps(mut number: u64, random: &mut Random) -> Made {
 /// A random sheet with a damaged field; these come after the single bytes.
 pub fn damaged_sheet(number: u64, random: &mut Random) -> Made {
     let (plan, map) = lookups::planned(random);
-    let (label, sheet) = damage_sheets::damaged(&plan.records, random);
+    let (label, sheet) = damage_sheets::damaged(&plan.sheet(), random);
     let one = Small {
         sheet: plan.bytes(),
         root: plan::shallow(&sheet, &plan.root, 250),

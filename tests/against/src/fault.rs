@@ -35,8 +35,9 @@ impl Fault {
 
     /// The bounds of the records before it.
     pub fn before(&self) -> Vec<Option<Interval>> {
+        let version = self.sheet.version;
         let records = self.sheet.records[..self.past.record].to_vec();
-        bounds::over(&Sheet { records }, &self.root)
+        bounds::over(&Sheet { version, records }, &self.root)
     }
 
     /// Its own bounds, from those of the records before it.

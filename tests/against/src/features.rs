@@ -1,7 +1,7 @@
 //! What a case has that is worth counting.
 
 use crate::case::{Build, Lookup};
-use crate::meetings;
+use crate::{meetings, zeros};
 use paper::bounds::{self, FURTHEST as LIMIT};
 use paper::map::HEADER;
 use paper::root::{Cube, Root, FURTHEST};
@@ -92,6 +92,7 @@ fn of_bounds(sheet: &Sheet, root: &Root) -> Vec<&'static str> {
     ]);
     if !passed {
         found.extend(meetings::of_build(sheet, root));
+        found.extend(zeros::of_build(sheet, root));
     }
     found
 }

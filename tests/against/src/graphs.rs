@@ -36,7 +36,10 @@ fn graph(random: &mut Random, label: &'static str, tame: bool) -> Plan {
     };
     let k = random.between(0, 16) as u8;
     let root = plan::root(random, k);
-    let sheet = Sheet { records: vec![X] };
+    let sheet = Sheet {
+        version: plan::version(random),
+        records: vec![X],
+    };
     let mut graph = Graph {
         random,
         sheet,
@@ -44,9 +47,10 @@ fn graph(random: &mut Random, label: &'static str, tame: bool) -> Plan {
         tame,
     };
     graph.grow(size as usize);
-    let records = graph.sheet.records;
+    let Sheet { version, records } = graph.sheet;
     Plan {
         label,
+        version,
         records,
         root,
     }

@@ -29,6 +29,7 @@ pub fn value(random: &mut Random) -> Plan {
     let solid = other_faces(random, &mut maker, &root, face);
     Plan {
         label: "values at 2^60 and beside",
+        version: plan::version(random),
         records: maker.with_solid(solid),
         root,
     }

@@ -4,7 +4,7 @@ use crate::builds::{self, Made};
 use crate::case::{Case, Lookup, PLACINGS};
 use crate::plan::Plan;
 use crate::random::Random;
-use crate::{damage_maps, damage_sheets, every_byte, limits, maps};
+use crate::{damage_maps, damage_sheets, every_byte, limits, maps, versions};
 use paper::build::map_of;
 use paper::root::Root;
 
@@ -30,7 +30,8 @@ pub fn any(number: u64, random: &mut Random) -> Made {
     let setting = match random.below(20) {
         _ if number % LARGEST_ONCE_IN == LARGEST_ONCE_IN / 2 => largest(number, random),
         0..=9 => own(random),
-        10..=12 => of_other_sheet(random),
+        10 | 11 => of_other_sheet(random),
+        12 => of_other_version(random),
         13..=15 => unbuilt(random),
         16 => beyond_limit(random),
         17 | 18 => damaged_map(random),
@@ -98,6 +99,16 @@ fn of_other_sheet(random: &mut Random) -> Setting {
     }
 }
 
+/// A map does not record its sheet's version.
+fn of_other_version(random: &mut Random) -> Setting {
+    let setting = own(random);
+    Setting {
+        label: "the map of the other version",
+        sheet: versions::other(&setting.sheet),
+        ..setting
+    }
+}
+
 fn unbuilt(random: &mut Random) -> Setting {
     let plan = builds::sound(random);
     let map = maps::unbuilt(&plan.sheet(), random);
@@ -142,7 +153,7 @@ fn damaged_map(random: &mut Random) -> Setting {
 
 fn damaged_sheet(random: &mut Random) -> Setting {
     let (plan, map) = planned(random);
-    let (label, sheet) = damage_sheets::damaged(&plan.records, random);
+    let (label, sheet) = damage_sheets::damaged(&plan.sheet(), random);
     Setting {
         label,
         sheet,

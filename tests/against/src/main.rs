@@ -19,6 +19,7 @@ mod every_byte;
 mod expect;
 mod fault;
 mod features;
+mod first_cubes;
 mod graphs;
 mod group;
 mod limits;
@@ -35,18 +36,23 @@ mod rooms;
 mod row_11;
 mod server;
 mod shrink;
+mod sizes;
 mod slips;
 mod spans;
 mod tally;
+mod version_maps;
+mod versions;
 mod wrong_before;
 mod wrong_builds;
 mod wrong_ends;
 mod wrong_lookups;
 mod wrong_mentions;
 mod wrong_reads;
+mod wrong_versions;
+mod zeros;
 
-use checks::Sizes;
 use group::Setup;
+use sizes::Sizes;
 use std::process::ExitCode;
 
 /// The settings of the command line, in pairs of words.

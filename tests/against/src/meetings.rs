@@ -1,8 +1,8 @@
 //! How states of one face each meet in both and either, which request 2026-03 decides.
 
-use paper::bounds;
-use paper::colour::{self, State, State::*, RULES};
-use paper::root::{Cube, Root};
+use crate::first_cubes::{names, show};
+use paper::colour::{State, State::*};
+use paper::root::Root;
 use paper::sheet::{Record, Sheet};
 
 /// First those of both, then those of either, in the same order.
@@ -21,23 +21,18 @@ pub const MEETINGS: [&str; 12] = [
     "states: either of other different faces",
 ];
 
-/// Deeper cubes are not looked at, to save time.
-const DEEPEST: u8 = 2;
-
 type Met = [bool; MEETINGS.len()];
 
 /// The meetings in a build within the limit, in the cubes of its first levels.
 pub fn of_build(sheet: &Sheet, root: &Root) -> Vec<&'static str> {
     let mut met = Met::default();
-    add_met(sheet, root.d.min(DEEPEST), &root.cube(), &mut met);
-    let named = MEETINGS.into_iter().zip(met);
-    named
-        .filter_map(|(name, met)| met.then_some(name))
-        .collect()
+    show(sheet, root, &mut |_, states| {
+        add_met(sheet, states, &mut met)
+    });
+    names(MEETINGS, met)
 }
 
-fn add_met(sheet: &Sheet, d: u8, cube: &Cube, met: &mut Met) {
-    let states = colour::states(&RULES, sheet, &bounds::over(sheet, cube));
+fn add_met(sheet: &Sheet, states: &[Option<State>], met: &mut Met) {
     for record in &sheet.records {
         let (first, p, q) = match *record {
             Record::Both(p, q) => (0, p, q),
@@ -46,11 +41,6 @@ fn add_met(sheet: &Sheet, d: u8, cube: &Cube, met: &mut Met) {
         };
         if let Some(how) = meeting(sheet, states[p], states[q]) {
             met[first + how] = true;
-        }
-    }
-    if cube.level < d && states.last() == Some(&Some(Mixed)) {
-        for child in cube.children() {
-            add_met(sheet, d, &child, met);
         }
     }
 }
@@ -73,7 +63,7 @@ fn meeting(sheet: &Sheet, p: Option<State>, q: Option<State>) -> Option<usize> {
 #[cfg(test)]
 mod tests {
     use super::*;
-    use paper::sheet::Record::*;
+    use paper::sheet::{Record::*, Version::One};
 
     /// Faces 3 and 4 have one operand; 7 crosses the root too, and is In in child 0.
     #[test]
@@ -86,8 +76,11 @@ mod tests {
             d,
         };
         let met = |joined: Record, d| {
-            let records = [&faces[..], &across, &[joined]].concat();
-            of_build(&Sheet { records }, &root(d))
+            let sheet = Sheet {
+                version: One,
+                records: [&faces[..], &across, &[joined]].concat(),
+            };
+            of_build(&sheet, &root(d))
         };
         assert_eq!(met(Both(3, 3), 0), [MEETINGS[0]]);
         assert_eq!(met(Both(8, 9), 0), [MEETINGS[1]]);
@@ -111,6 +104,7 @@ mod tests {
         let records = [&faces[..], &across].concat();
         let met = |d| {
             let sheet = Sheet {
+                version: One,
                 records: records.clone(),
             };
             let low = [0, 0, 0];

@@ -5,10 +5,12 @@ use paper::bounds;
 use paper::build::Colouring;
 use paper::colour::{self, GRAY};
 use paper::root::{Cube, Root, FURTHEST};
-use paper::sheet::{Record, Sheet};
+use paper::sheet::{Record, Sheet, Version, VERSIONS};
 
+#[derive(Clone)]
 pub struct Plan {
     pub label: &'static str,
+    pub version: Version,
     pub records: Vec<Record>,
     pub root: Root,
 }
@@ -16,12 +18,13 @@ pub struct Plan {
 impl Plan {
     pub fn sheet(&self) -> Sheet {
         Sheet {
+            version: self.version,
             records: self.records.clone(),
         }
     }
 
     pub fn bytes(&self) -> Vec<u8> {
-        paper::sheet::write(&self.records)
+        paper::sheet::write(self.version, &self.records)
     }
 
     /// Chooses a depth whose map has at most `most_leaves` leaves. Returns the number of leaves: 0 if the build is refused.
@@ -32,6 +35,11 @@ impl Plan {
         self.root.d = d;
         leaves
     }
+}
+
+/// Either version of a sheet.
+pub fn version(random: &mut Random) -> Version {
+    random.pick(&VERSIONS)
 }
 
 /// A root of side 2^k in limits, of depth 0.

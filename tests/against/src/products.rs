@@ -5,6 +5,7 @@
 
 use crate::builds::Made;
 use crate::maker::Maker;
+use crate::plan;
 use crate::random::Random;
 use crate::spans::{built, exact, number, operand, Span};
 use paper::bounds::{Interval, FURTHEST};
@@ -92,7 +93,7 @@ pub fn any(number: u64, random: &mut Random) -> Made {
         probed(&mut maker, product, bounds, probe);
     }
     let solid = maker.add(Face(product));
-    let sheet = sheet::write(&maker.with_solid(solid));
+    let sheet = sheet::write(plan::version(random), &maker.with_solid(solid));
     Made {
         labels: vec![SIGNS[sign(first)][sign(second)]],
         case: built(sheet, random),

@@ -22,7 +22,7 @@ pub struct Held {
 }
 
 /// Runs a case, and returns its outcome.
-type Ask<'a> = dyn FnMut(&Case) -> Result<Outcome, String> + 'a;
+pub type Ask<'a> = dyn FnMut(&Case) -> Result<Outcome, String> + 'a;
 
 /// Tests the relations on `cases` builds and lookups, on two servers, up to one that breaks them.
 pub fn run(setup: &Setup, cases: u64) -> Result<Held, String> {
@@ -44,7 +44,7 @@ pub fn run(setup: &Setup, cases: u64) -> Result<Held, String> {
 }
 
 /// A build or a lookup, with good and damaged sheets and maps in turn, and with bounds about the limit, each once.
-fn any(number: u64, random: &mut Random) -> Made {
+pub fn any(number: u64, random: &mut Random) -> Made {
     let turn = number / 5;
     match number % 5 {
         0 => builds::any(number + 1, random),

@@ -17,7 +17,7 @@ pub struct Drawing<'a> {
 /// Adds a shape to a drawing, and returns its record's number.
 pub type Shape = fn(&mut Drawing) -> usize;
 
-const SHAPES: [(&str, Shape); 10] = [
+const SHAPES: [(&str, Shape); 11] = [
     ("room: box", boxed),
     ("room: cylinder", cylinder),
     ("room: sphere", sphere),
@@ -28,6 +28,7 @@ const SHAPES: [(&str, Shape); 10] = [
     ("room: less a column", column),
     ("room: slanted faces", slanted),
     ("room: complement of a complement", twice_complement),
+    ("room: walls on planes of cubes", on_planes),
 ];
 
 pub fn room(random: &mut Random) -> Plan {
@@ -85,6 +86,7 @@ fn gray_sphere(drawing: &mut Drawing) -> usize {
 
 fn drawn(random: &mut Random, root: Root, label: &'static str, shape: Shape) -> Plan {
     let share = !random.once_in(3);
+    let version = plan::version(random);
     let mut drawing = Drawing {
         random,
         maker: Maker {
@@ -97,6 +99,7 @@ fn drawn(random: &mut Random, root: Root, label: &'static str, shape: Shape) -> 
     let records = drawing.maker.with_solid(solid);
     Plan {
         label,
+        version,
         records,
         root,
     }
@@ -238,6 +241,37 @@ pub fn half_space(drawing: &mut Drawing) -> usize {
     }
     let limit = drawing.maker.constant(limit);
     drawing.maker.at_most(total, limit)
+}
+
+/// A box, all but a box, or one box less another. Their walls lie on planes of cubes, so that bounds begin and end at 0.
+fn on_planes(drawing: &mut Drawing) -> usize {
+    let room = box_on_planes(drawing);
+    match drawing.random.below(3) {
+        0 => room,
+        1 => drawing.maker.add(Complement(room)),
+        _ => {
+            let other = box_on_planes(drawing);
+            let around = drawing.maker.add(Complement(other));
+            drawing.maker.add(Both(room, around))
+        }
+    }
+}
+
+fn box_on_planes(drawing: &mut Drawing) -> usize {
+    let Root { low, k, .. } = drawing.root;
+    let halvings = drawing.random.between(0, k.min(4).into());
+    let step = 1i64 << (i64::from(k) - halvings);
+    let mut plane = |axis: usize| {
+        let steps = drawing.random.between(0, 1 << halvings);
+        i64::from(low[axis]) + step * steps
+    };
+    let [x, y, z] = [0, 1, 2].map(|axis| {
+        let (a, b) = (plane(axis), plane(axis));
+        [a.min(b), a.max(b)]
+    });
+    let floor_plan = drawing.maker.rectangle(x, y);
+    let heights = drawing.maker.between(2, z[0], z[1]);
+    drawing.maker.add(Both(floor_plan, heights))
 }
 
 fn twice_complement(drawing: &mut Drawing) -> usize {

@@ -7,7 +7,7 @@ use crate::plan;
 use crate::server::Server;
 use paper::map::{HEADER, LEAF};
 use paper::root::Root;
-use paper::sheet::{self, Record, Sheet};
+use paper::sheet::{self, Record, Sheet, Version::One};
 use std::time::{Duration, Instant};
 
 const MOST_TRIES: usize = 10_000;
@@ -132,22 +132,26 @@ fn smaller_sheets(bytes: &[u8]) -> Tries<'_, Vec<u8>> {
     }
 }
 
-/// The first records only; a record left out; a constant nearer to 0.
+/// The first records only; a record left out; a constant nearer to 0; version 1.
 fn smaller_records(sheet: &Sheet) -> Vec<Vec<u8>> {
     let mut sheets = Vec::new();
     let records = &sheet.records;
+    let write = |records: &[Record]| sheet::write(sheet.version, records);
     for end in 1..records.len() {
-        sheets.push(sheet::write(&records[..end]));
+        sheets.push(write(&records[..end]));
     }
     for dropped in (0..records.len()).rev() {
         let operands = records[dropped].operands();
         for instead in operands.into_iter().chain([0, dropped]) {
-            sheets.extend(without(records, dropped, instead).map(|left| sheet::write(&left)));
+            sheets.extend(without(records, dropped, instead).map(|left| write(&left)));
         }
         for c in simpler_constants(&records[dropped]) {
             let simpler = with(records, |other| other[dropped] = Record::Constant(c));
-            sheets.push(sheet::write(&simpler));
+            sheets.push(write(&simpler));
         }
+    }
+    if sheet.version != One {
+        sheets.push(sheet::write(One, records));
     }
     sheets.retain(|bytes| sheet::read(bytes).is_ok());
     sheets

@@ -8,6 +8,7 @@ use crate::wrong_ends::*;
 use crate::wrong_lookups::*;
 use crate::wrong_mentions::*;
 use crate::wrong_reads::*;
+use crate::wrong_versions::*;
 use crate::{alone, builds, ends, every_byte, lookups, products};
 use paper::before_03;
 
@@ -34,8 +35,10 @@ const MAPS: Make = every_byte::damaged_map;
 
 const OF_BUILDING: [(&str, Make, Wrong); 17] = [
     ("corners sampled", BUILDING, |c| coloured(c, &corners)),
-    ("[0, 2] is Out", BUILDING, |c| coloured(c, &zero_out)),
-    ("[-2, 0] is undecided", BUILDING, |c| {
+    ("version 1: [0, 2] is Out", BUILDING, |c| {
+        coloured(c, &zero_out)
+    }),
+    ("version 1: [-2, 0] is undecided", BUILDING, |c| {
         coloured(c, &zero_undecided)
     }),
     ("a square as a product", BUILDING, square_as_product),
@@ -106,6 +109,27 @@ const OF_MENTIONS: [(&str, Make, Wrong); 10] = [
     }),
 ];
 
+/// Of faces that exclude themselves.
+const OF_STRICT_FACES: [(&str, Make, Wrong); 5] = [
+    ("version 2: Out at a > 0", BUILDING, |c| {
+        coloured(c, &zero_not_out)
+    }),
+    ("version 2: In at b <= 0", BUILDING, |c| {
+        coloured(c, &zero_in)
+    }),
+    ("version 2: [0, 0] is In", BUILDING, |c| {
+        coloured(c, &only_zero_in)
+    }),
+    ("version 2: [0, 0] is undecided", BUILDING, |c| {
+        coloured(c, &only_zero_single)
+    }),
+    (
+        "version 2: a point on a face is on neither side",
+        LOOKING,
+        on_neither_side,
+    ),
+];
+
 const OF_SHEETS: [(&str, Make, Wrong); 6] = [
     ("offsets from the first record", SHEETS, offsets_from_record),
     ("operands tested with the records", SHEETS, operands_early),
@@ -163,6 +187,34 @@ const OF_LOOKING: [(&str, Make, Wrong); 8] = [
 ];
 
 /// Each is tried on builds and on lookups.
+const OF_MEANINGS: [(&str, Wrong); 3] = [
+    ("strict in both versions", strict_in_both),
+    ("strict in no version", strict_in_none),
+    ("the versions exchanged", exchanged),
+];
+
+const BY_MEANING: [(&str, Make); 2] = [("building", BUILDING), ("looking up", LOOKING)];
+
+/// Each is tried on checks, on builds and on lookups.
+const OF_VERSIONS: [(&str, Wrong); 5] = [
+    ("version 3 accepted", version_3_read),
+    ("version 0 accepted", version_0_read),
+    ("version 2 refused", version_2_refused),
+    ("the version's lowest bits", lowest_bits),
+    ("the version from byte 1", from_byte_1),
+];
+
+const BY_VERSION: [(&str, Make); 3] = [
+    ("checking", CHECKING),
+    ("building", |number, random| {
+        every_byte::damaged_sheet(3 * number, random)
+    }),
+    ("looking up", |number, random| {
+        every_byte::damaged_sheet(3 * number + 1, random)
+    }),
+];
+
+/// Each is tried on builds and on lookups.
 const OF_ENDS: [(&str, Wrong); 7] = [
     ("the high end first", high_end_first),
     ("a low end above 2^60 is the high end's", low_end_only_below),
@@ -173,22 +225,33 @@ const OF_ENDS: [(&str, Wrong); 7] = [
     ("the last operand's end", end_of_last_operand),
 ];
 
-const GIVING_7: [(&str, Make); 2] = [("building", ends::build), ("looking up", ends::lookup)];
+const GIVING_7: [(&str, Make); 2] = [
+    ("building, 7", ends::build),
+    ("looking up, 7", ends::lookup),
+];
 
-fn of_ends() -> impl Iterator<Item = (String, Make, Wrong)> {
-    let each = |(call, make): (&'static str, Make)| {
-        let named = move |(rule, oracle)| (format!("{call}, 7: {rule}"), make, oracle);
-        OF_ENDS.into_iter().map(named)
-    };
-    GIVING_7.into_iter().flat_map(each)
+/// Each of some rules on the cases of each of some calls.
+fn on_each(
+    calls: &'static [(&'static str, Make)],
+    rules: &'static [(&'static str, Wrong)],
+) -> impl Iterator<Item = (String, Make, Wrong)> {
+    calls.iter().flat_map(move |&(call, make)| {
+        let named = move |&(rule, oracle)| (format!("{call}: {rule}"), make, oracle);
+        rules.iter().map(named)
+    })
 }
 
 pub fn slips() -> impl Iterator<Item = Slip> {
     let of_reading = OF_SHEETS.into_iter().chain(OF_OPENING);
     let of_building = OF_BUILDING.into_iter().chain(OF_MENTIONS);
+    let of_building = of_building.chain(OF_STRICT_FACES);
     let all = of_building.chain(of_reading).chain(OF_LOOKING);
     let all = all.map(|(name, make, oracle)| (name.to_string(), make, oracle));
-    all.chain(of_ends()).map(|(name, make, oracle)| Slip {
+    let all = all
+        .chain(on_each(&BY_MEANING, &OF_MEANINGS))
+        .chain(on_each(&BY_VERSION, &OF_VERSIONS))
+        .chain(on_each(&GIVING_7, &OF_ENDS));
+    all.map(|(name, make, oracle)| Slip {
         name,
         group: Group {
             name: "wrong rules",

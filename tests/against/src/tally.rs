@@ -5,11 +5,15 @@ use crate::case::{Build, Call, Case, Lookup, Outcome, CALLS, PLACINGS};
 use crate::fault::{Fault, WAYS};
 use crate::features;
 use crate::meetings::MEETINGS;
+use crate::zeros;
 use paper::Reply;
 use std::collections::BTreeMap;
 
 /// The sorts of offset in reply 9: length, version, root or depth, a leaf, leaves that stop short.
 const OFFSETS: usize = 5;
+
+/// The versions that a sheet must have been given with: those that are read, and others.
+const VERSIONS: [u8; 5] = [0, 1, 2, 3, 255];
 
 type Counted<K> = BTreeMap<K, u64>;
 
@@ -20,6 +24,8 @@ pub struct Tally {
     features: Counted<&'static str>,
     /// By call, and then by code, whether the table has it or not.
     codes: [Counted<u32>; CALLS.len()],
+    /// By call, and then by the version of its sheet, if the sheet's length agrees.
+    versions: [Counted<u8>; CALLS.len()],
     /// By call, and then by the sort of offset in reply 9.
     offsets: [[u64; OFFSETS]; CALLS.len()],
     /// By call, and then by the way to pass the limit in reply 7.
@@ -48,6 +54,7 @@ impl Tally {
             Case::Check(_) | Case::Open(_) => (),
             Case::Build(build) => self.count_build(build, expected.replies[0]),
             Case::Lookup(lookup) => {
+                self.count_features(zeros::of_lookup(lookup));
                 for (&point, &reply) in lookup.points.iter().zip(&expected.replies) {
                     self.count_lookup(lookup, point, reply);
                 }
@@ -58,6 +65,9 @@ impl Tally {
     fn count_reply(&mut self, case: &Case, reply: Reply) {
         let call = case.call() as usize;
         *self.codes[call].entry(reply.code).or_default() += 1;
+        if let (Some([_, _, version, ..]), true) = (case.sheet(), reply.code != 1) {
+            *self.versions[call].entry(*version).or_default() += 1;
+        }
         if let (9, Some(map)) = (reply.code, case.map()) {
             let sort = match reply.number {
                 0 => 0,
@@ -103,6 +113,7 @@ impl Tally {
         for call in CALLS {
             let call = call as usize;
             add_counted(&mut self.codes[call], &other.codes[call]);
+            add_counted(&mut self.versions[call], &other.versions[call]);
             add_each(&mut self.offsets[call], &other.offsets[call]);
             add_each(&mut self.ways[call], &other.ways[call]);
         }
@@ -133,6 +144,18 @@ impl Tally {
         MEETINGS.iter().all(|way| self.features.contains_key(way))
     }
 
+    /// Whether a call was given a sheet of every version.
+    pub fn reached_all_versions(&self, call: Call) -> bool {
+        let given = &self.versions[call as usize];
+        VERSIONS.iter().all(|version| given.contains_key(version))
+    }
+
+    /// Whether faces were 0 at an end of their bounds and at points on their leaf, in every way and in each version.
+    pub fn met_all_zeros(&self) -> bool {
+        let mut all = zeros::OF_BUILDS.iter().chain(&zeros::OF_LOOKUPS);
+        all.all(|way| self.features.contains_key(way))
+    }
+
     /// The number of calls, as in '20 builds, 3 lookups'.
     pub fn calls(&self) -> String {
         let counted = CALLS.map(|call| (self.codes[call as usize].values().sum::<u64>(), call));
@@ -151,6 +174,18 @@ impl Tally {
         print_counted(&self.features);
     }
 
+    /// The number of calls with each version of the sheet, and with another.
+    fn by_version(&self, call: Call) -> String {
+        let given = &self.versions[call as usize];
+        let counts = VERSIONS.map(|version| given.get(&version).copied().unwrap_or_default());
+        let others = given.values().sum::<u64>() - counts.iter().sum::<u64>();
+        let named = VERSIONS.iter().zip(counts);
+        let texts: Vec<String> = named
+            .map(|(version, count)| format!("{version}: {count}"))
+            .collect();
+        format!("{}, others: {others}", texts.join(", "))
+    }
+
     /// Prints the outcomes of the calls.
     pub fn print_outcomes(&self) {
         println!("  outcomes of the calls:");
@@ -160,6 +195,9 @@ impl Tally {
                 .map(|(code, count)| format!("{code}: {count}"))
                 .collect();
             println!("    {} by code: {}", call.name(), texts.join(", "));
+        }
+        for call in [Call::Check, Call::Build, Call::Lookup] {
+            println!("    {} by version: {}", call.name(), self.by_version(call));
         }
         for call in [Call::Open, Call::Lookup] {
             let (name, offsets) = (call.name(), list(&self.offsets[call as usize]));

@@ -9,11 +9,14 @@ use paper::colour::{BLACK, GRAY, TERMINAL, TERMINAL_COMPLEMENT, WHITE};
 use paper::fractions::{Point, Values};
 use paper::map::{self, Leaf};
 use paper::root::{Cube, Root};
-use paper::sheet::{self, Record, Sheet};
+use paper::sheet::{
+    self, Record, Sheet,
+    Version::{self, One},
+};
 use paper::{reply, Refusal, Reply};
 
 /// Deeper maps built by a wrong rule may have millions of leaves.
-const DEEPEST: u8 = 4;
+pub const DEEPEST: u8 = 4;
 
 /// The outcome of a build whose map is made in another way; for any other case, the paper's outcome.
 fn built(case: &Case, map: impl Fn(&Sheet, &Root) -> Result<Vec<u8>, Refusal>) -> Outcome {
@@ -68,8 +71,11 @@ pub fn limit_refused(case: &Case) -> Outcome {
 fn of_records(case: &Case, other: fn(&Record) -> Option<Record>) -> Outcome {
     built(case, |sheet, root| {
         let read = |record: &Record| other(record).unwrap_or(record.clone());
-        let records = sheet.records.iter().map(read).collect();
-        map_by(&colour::colour, &Sheet { records }, root)
+        let other = Sheet {
+            version: sheet.version,
+            records: sheet.records.iter().map(read).collect(),
+        };
+        map_by(&colour::colour, &other, root)
     })
 }
 
@@ -136,28 +142,30 @@ pub fn corners(sheet: &Sheet, cube: &Cube) -> Colour {
     Colour { class, face: 0 }
 }
 
-/// The paper's colour, from other bounds.
-fn by_bounds(sheet: &Sheet, cube: &Cube, other: fn(Interval) -> Interval) -> Colour {
-    let bounds = bounds::over(sheet, cube);
-    let bounds: Vec<_> = bounds.into_iter().map(|one| one.map(other)).collect();
-    colour::class(colour::solid(&RULES, sheet, &bounds))
+/// The paper's colour, but in a version a face with some bounds has another state.
+pub fn by_face(
+    sheet: &Sheet,
+    cube: &Cube,
+    version: Version,
+    other: fn(usize, Interval) -> Option<State>,
+) -> Colour {
+    let face = |of, number, bounds| {
+        let other = (of == version).then(|| other(number, bounds)).flatten();
+        other.unwrap_or(colour::face(of, number, bounds))
+    };
+    let face = &face;
+    colour::colour_by(&Rules { face, ..RULES }, sheet, cube)
 }
 
 pub fn zero_out(sheet: &Sheet, cube: &Cube) -> Colour {
-    by_bounds(sheet, cube, |of| Interval {
-        low: if of.low == 0 && of.high > 0 {
-            1
-        } else {
-            of.low
-        },
-        ..of
+    by_face(sheet, cube, One, |_, of| {
+        (of.low == 0 && of.high > 0).then_some(State::Out)
     })
 }
 
 pub fn zero_undecided(sheet: &Sheet, cube: &Cube) -> Colour {
-    by_bounds(sheet, cube, |of| Interval {
-        high: if of.high == 0 { 1 } else { of.high },
-        ..of
+    by_face(sheet, cube, One, |number, of| {
+        (of.high == 0).then_some(State::Single(number))
     })
 }
 

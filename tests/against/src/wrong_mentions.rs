@@ -91,12 +91,12 @@ pub fn comp_as_single(sheet: &Sheet, cube: &Cube) -> Colour {
 pub fn by_record(sheet: &Sheet, cube: &Cube) -> Colour {
     let bounds = bounds::over(sheet, cube);
     let mut states = Vec::new();
-    for numbered in sheet.records.iter().enumerate() {
-        let rules = match *numbered.1 {
+    for (number, record) in sheet.records.iter().enumerate() {
+        let rules = match *record {
             Record::Both(p, q) | Record::Either(p, q) if p != q => &before_03::RULES,
             _ => &RULES,
         };
-        states.push(colour::state(rules, numbered, &bounds, &states));
+        states.push(colour::state(rules, sheet, number, &bounds, &states));
     }
     let solid = states.pop().flatten();
     colour::class(solid.expect("the last record is logical"))

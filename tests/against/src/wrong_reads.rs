@@ -5,11 +5,11 @@ use crate::damage_maps::tell_length;
 use crate::expect::by_paper;
 use paper::colour::{GRAY, TERMINAL, TERMINAL_COMPLEMENT, WHITE};
 use paper::map::{self, HEADER, LEAF};
-use paper::sheet::{self, Record, Sheet, Sort};
+use paper::sheet::{self, Record, Sheet, Sort, Version::One};
 use paper::{reply, Reply};
 
 /// The paper's replies, changed.
-pub fn changed_replies(case: &Case, change: impl Fn(&mut Reply)) -> Outcome {
+pub fn changed_replies(case: &Case, change: impl FnMut(&mut Reply)) -> Outcome {
     let mut outcome = by_paper(case);
     outcome.replies.iter_mut().for_each(change);
     outcome
@@ -67,7 +67,7 @@ pub fn face_of_face(case: &Case) -> Outcome {
                 _ => record.clone(),
             };
             let other: Vec<Record> = records.iter().enumerate().map(read).collect();
-            *given = sheet::check(&sheet::write(&other));
+            *given = sheet::check(&sheet::write(One, &other));
         }
     })
 }
@@ -85,7 +85,10 @@ pub fn leaves_by_length(case: &Case) -> Outcome {
 pub fn faces_demanded(case: &Case) -> Outcome {
     changed_replies(case, |given| {
         if let Case::Open(lent) = case {
-            let no_faces = Sheet { records: vec![] };
+            let no_faces = Sheet {
+                version: One,
+                records: vec![],
+            };
             let opened = map::read_for(&lent.bytes, &no_faces);
             *given = opened.err().unwrap_or(*given);
         }

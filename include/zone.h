@@ -10,7 +10,12 @@
    has its own `out`.
 
    A length is that of the whole sheet or map. A buffer that is longer than the map in it is not a map: pass the length that zone_build
-   returned. Numbers in sheets and maps are big-endian; one unit is 1/256 metre. */
+   returned. Numbers in sheets and maps are big-endian; one unit is 1/256 metre.
+
+   A sheet is of version 1 or 2, by its third byte. The two differ only in what a face is, the record of kind 16: where its operand is at
+   most 0 in version 1, and where it is less than 0 in version 2. So a point on a face satisfies the face in version 1, and its complement in
+   version 2: there the face belongs to the wall. A version 1 and a version 2 sheet with equal records are two sheets, with a map each. A map
+   does not say which version its sheet has: look up in it with the sheet that it was built from. */
 #ifndef ZONE_H
 #define ZONE_H
 
@@ -21,10 +26,10 @@
 
    A later version may add calls and codes, and may drop a code that no input brings about. A code keeps its meaning, and a number that was
    dropped is not used again. So treat a code that you do not know as a refusal. While the major number is 0, a new minor number may also
-   change a call, the number that comes with a code, or the map that zone_build makes of a sheet: CHANGELOG.md says what to do. A map that an
-   earlier version built still opens, and what a lookup answers by it is still true. */
+   change a call, the number that comes with a code, the sheets that are read, or the map that zone_build makes of a sheet: CHANGELOG.md
+   says what to do. A map that an earlier version built still opens, and what a lookup answers by it is still true. */
 #define ZONE_VERSION_MAJOR 0
-#define ZONE_VERSION_MINOR 5
+#define ZONE_VERSION_MINOR 6
 #define ZONE_VERSION (ZONE_VERSION_MAJOR * 1000 + ZONE_VERSION_MINOR)
 
 #ifdef __cplusplus
@@ -40,7 +45,7 @@ enum ZoneCode {
                       of leaves, from zone_lookup one of ZoneAnswer */
     /* zone_check, zone_build and zone_lookup. */
     ZONE_SHEET_LENGTH = 1,  /* the sheet has fewer than 3 bytes, or its length is not the one that it says: 0 */
-    ZONE_SHEET_VERSION = 2, /* the sheet's version is not 1: 0 */
+    ZONE_SHEET_VERSION = 2, /* the sheet's version is neither 1 nor 2: 0 */
     ZONE_RECORD = 3,        /* a record runs over the end, has an unknown kind or a wrong count, or is the 257th: its offset in the sheet */
     ZONE_OPERAND = 4,       /* an operand is not an earlier record, or is of the wrong sort: the record's number */
     ZONE_SOLID = 5,         /* there are no records, or the last is not logical: the number of records */

@@ -65,10 +65,13 @@ pub fn satisfies(records: &[Record], face: u8, point: [i32; 3]) -> bool {
             Record::Product(a, b) => values[a as usize] * values[b as usize],
             Record::Square(a) => values[a as usize] * values[a as usize],
             // No arithmetic record has a logical one as an operand.
-            Record::Face(_) | Record::Both(..) | Record::Either(..) | Record::Complement(_) => 0,
+            Record::Face(..) | Record::Both(..) | Record::Either(..) | Record::Complement(_) => 0,
         });
     }
-    matches!(records[face as usize], Record::Face(a) if values[a as usize] <= 0)
+    match records[face as usize] {
+        Record::Face(a, below) => values[a as usize] < below.into(),
+        _ => false,
+    }
 }
 
 impl Build<'_> {
@@ -144,6 +147,52 @@ fn step_room() {
         Err((5, 0))
     );
     assert_eq!(build(&[0, 0], &root(0)).map(|map| map.bytes), Err((1, 0)));
+}
+
+/// What a face of each version gives, by the plain programs and by the library: the class of the only leaf, over x from low to low + 2, and
+/// whether each point of it along x is inside.
+#[test]
+fn faces_of_both_versions() {
+    for (version, low, class, inside) in [
+        (1, -3, 1, [1, 1]),
+        (1, -2, 1, [1, 1]),
+        (1, -1, 2, [1, 1]),
+        (1, 0, 2, [1, 0]),
+        (1, 1, 0, [0, 0]),
+        (2, -3, 1, [1, 1]),
+        (2, -2, 2, [1, 1]),
+        (2, -1, 2, [1, 0]),
+        (2, 0, 0, [0, 0]),
+        (2, 1, 0, [0, 0]),
+    ] {
+        let (corner, k, d) = ([low, 0, 0], 1, 0);
+        let root = Root { corner, k, d };
+        let mut s = crate::drawing::Sheet::default();
+        let x = s.coordinate(0);
+        s.face(x);
+        let sheet = s.finish_as(version);
+        let mut map = [0; 22];
+        assert_eq!(crate::library::build(&sheet, &root, &mut map), Ok(22));
+        assert_eq!(map[20], class);
+        let built = build(&sheet, &root).map(|built| built.bytes);
+        assert_eq!(built, Ok(map.to_vec()));
+        for (x, inside) in (low..).zip(inside) {
+            let point = [x, 0, 0];
+            assert_eq!(crate::scan::lookup(&sheet, &map, point), Ok(inside));
+            assert_eq!(crate::library::lookup(&sheet, &map, point), Ok(inside));
+        }
+    }
+}
+
+#[test]
+fn other_versions_are_refused() {
+    for version in [0, 3, 255] {
+        let sheet = crate::drawing::Sheet::default().finish_as(version);
+        let (corner, k, d) = ([0, 0, 0], 0, 0);
+        let root = Root { corner, k, d };
+        assert_eq!(build(&sheet, &root).err(), Some((2, 0)));
+        assert_eq!(crate::library::build(&sheet, &root, &mut []), Err((2, 0)));
+    }
 }
 
 /// A sheet over x and y from 0 to 1: record 3 is 2^60, record 5 is -2^60, and record 8 has the bounds [-2^60, 2^60].

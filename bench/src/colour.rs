@@ -67,10 +67,10 @@ pub enum State {
 }
 
 impl State {
-    fn of_face(bounds: Interval, face: u8) -> State {
-        if bounds.high <= 0 {
+    fn of_face(bounds: Interval, below: i64, face: u8) -> State {
+        if bounds.high < below {
             In
-        } else if bounds.low > 0 {
+        } else if bounds.low >= below {
             Out
         } else {
             Single(face)
@@ -172,7 +172,9 @@ pub fn colour(
                 bounds[i] = bounds[a as usize].product(bounds[b as usize]).ok_or(i)?
             }
             Record::Square(a) => bounds[i] = bounds[a as usize].square().ok_or(i)?,
-            Record::Face(a) => states[i] = State::of_face(bounds[a as usize], i as u8),
+            Record::Face(a, below) => {
+                states[i] = State::of_face(bounds[a as usize], below.into(), i as u8)
+            }
             Record::Both(p, q) => states[i] = states[p as usize].both(states[q as usize]),
             Record::Either(p, q) => states[i] = states[p as usize].either(states[q as usize]),
             Record::Complement(p) => states[i] = states[p as usize].complement(),

@@ -114,8 +114,13 @@ impl Sheet {
     }
 
     pub fn finish(self) -> Vec<u8> {
+        self.finish_as(1)
+    }
+
+    /// The sheet with this version, read or not. A version 2 face is where its operand is less than 0.
+    pub fn finish_as(self, version: u8) -> Vec<u8> {
         let mut sheet = (1 + self.bytes.len() as u16).to_be_bytes().to_vec();
-        sheet.push(1);
+        sheet.push(version);
         sheet.extend(self.bytes);
         sheet
     }

@@ -15,7 +15,9 @@ pub enum Record {
     Difference(u8, u8),
     Product(u8, u8),
     Square(u8),
-    Face(u8),
+    /// The operand, and what it is less than: 0 in version 2, and 1 in version 1, where a whole number is at most 0 if it is less than 1. So
+    /// both versions are one comparison, the faster of the two forms that were tried.
+    Face(u8, u8),
     Both(u8, u8),
     Either(u8, u8),
     Complement(u8),
@@ -24,11 +26,11 @@ pub enum Record {
 impl Record {
     fn is_logical(self) -> bool {
         use Record::*;
-        matches!(self, Face(_) | Both(..) | Either(..) | Complement(_))
+        matches!(self, Face(..) | Both(..) | Either(..) | Complement(_))
     }
 
-    /// The record at the start of some bytes, and the number of bytes it takes.
-    fn read(bytes: &[u8]) -> Option<(Record, usize)> {
+    /// The record at the start of some bytes, and the number of bytes it takes, in a sheet whose faces are below this number.
+    fn read(bytes: &[u8], below: u8) -> Option<(Record, usize)> {
         use Record::*;
         let count = *bytes.first()? as usize;
         let record = match *bytes.get(1..1 + count)? {
@@ -40,7 +42,7 @@ impl Record {
             [6, a, b] => Difference(a, b),
             [7, a, b] => Product(a, b),
             [8, a] => Square(a),
-            [16, a] => Face(a),
+            [16, a] => Face(a, below),
             [17, p, q] => Both(p, q),
             [18, p, q] => Either(p, q),
             [19, p] => Complement(p),
@@ -57,7 +59,7 @@ impl Record {
         match self {
             Constant(_) | X | Y | Z => true,
             Sum(a, b) | Difference(a, b) | Product(a, b) => arithmetic(a) && arithmetic(b),
-            Square(a) | Face(a) => arithmetic(a),
+            Square(a) | Face(a, _) => arithmetic(a),
             Both(p, q) | Either(p, q) => logical(p) && logical(q),
             Complement(p) => logical(p),
         }
@@ -69,13 +71,15 @@ pub fn parse(sheet: &[u8]) -> Result<Vec<Record>, Refusal> {
     if sheet.len() < 3 || u16::from_be_bytes([sheet[0], sheet[1]]) as usize != sheet.len() - 2 {
         return Err((1, 0));
     }
-    if sheet[2] != 1 {
-        return Err((2, 0));
-    }
+    let below = match sheet[2] {
+        1 => 1,
+        2 => 0,
+        _ => return Err((2, 0)),
+    };
     let mut records = Vec::new();
     let mut at = 3;
     while at < sheet.len() {
-        match Record::read(&sheet[at..]) {
+        match Record::read(&sheet[at..], below) {
             Some((record, taken)) if records.len() < MOST_RECORDS => {
                 records.push(record);
                 at += taken;

@@ -94,7 +94,7 @@ fn place(root: &Root, point: [i32; 3]) -> Option<u32> {
 fn faces(records: &[Record]) -> [bool; 256] {
     let mut faces = [false; 256];
     for (face, record) in faces.iter_mut().zip(records) {
-        *face = matches!(record, Record::Face(_));
+        *face = matches!(record, Record::Face(..));
     }
     faces
 }

@@ -191,7 +191,7 @@ fn hall(records: usize, d: u8) -> Case {
     finished(s, records, from_origin(14, d))
 }
 
-/// Fourth powers, which pass the limit over a root that is large or far away.
+/// Fourth powers, which pass the limit over a root that is large or far away. It is a version 2 sheet.
 pub fn steep() -> Case {
     let mut s = Sheet::default();
     let [x, y] = [0, 1].map(|axis| {
@@ -202,7 +202,7 @@ pub fn steep() -> Case {
     s.both(x, y);
     Case {
         records: s.count(),
-        sheet: s.finish(),
+        sheet: s.finish_as(2),
         root: Root {
             corner: [-700, -300, -5],
             k: 10,

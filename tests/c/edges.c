@@ -1,5 +1,5 @@
 /* Calls at the edges of what zone.h promises: no bytes, a byte too few, a map that lies in the buffer of its sheet, a leaf that names no
-   face, and bounds that pass 2^60 at either end. Prints one line per call that returns something else, and exits with 1 if there is one. */
+   face, bounds that pass 2^60 at either end, and both versions of a sheet with those beside them. Prints one line per call that returns something else, and exits with 1 if there is one. */
 #include "zone.h"
 #include <stdio.h>
 
@@ -89,11 +89,32 @@ static void over_root(void) {
     is_over("the low end below -2^60", below, sizeof below, 5, ZONE_LOW_END);
 }
 
+/* The step room as version 2, where x is less than 2 and y less than 2: (1, 0, 0) is inside and (2, 0, 0) on a face, which excludes it.
+   Versions 0 and 3 are refused. */
+static void versions(void) {
+    uint8_t map[85];
+    bytes[2] = 2;
+    is("version 2", zone_check(bytes, sheet_len), ZONE_DONE, 8);
+    is("a map of version 2", zone_build(bytes, sheet_len, 0, 0, 0, 2, 2, map, sizeof map), ZONE_DONE, sizeof map);
+    is("inside by version 2", zone_lookup(bytes, sheet_len, map, sizeof map, 1, 0, 0), ZONE_DONE, ZONE_INSIDE);
+    is("on a face of version 2", zone_lookup(bytes, sheet_len, map, sizeof map, 2, 0, 0), ZONE_DONE, ZONE_OUTSIDE);
+    bytes[2] = 1;
+    is("on a face of version 1", zone_build(bytes, sheet_len, 0, 0, 0, 2, 1, map, 43), ZONE_DONE, 43);
+    is("on a face of version 1", zone_lookup(bytes, sheet_len, map, 43, 2, 0, 0), ZONE_DONE, ZONE_INSIDE);
+    bytes[2] = 0;
+    is("version 0", zone_check(bytes, sheet_len), ZONE_SHEET_VERSION, 0);
+    bytes[2] = 3;
+    is("version 3", zone_build(bytes, sheet_len, 0, 0, 0, 2, 1, map, sizeof map), ZONE_SHEET_VERSION, 0);
+    is("version 3", zone_lookup(bytes, sheet_len, map, 43, 2, 0, 0), ZONE_SHEET_VERSION, 0);
+    bytes[2] = 1;
+}
+
 int main(void) {
     no_bytes();
     a_byte_short();
     side_by_side();
     no_face();
     over_root();
+    versions();
     return failed;
 }

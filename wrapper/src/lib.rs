@@ -1,6 +1,10 @@
 //! Zone maps: check a zone sheet, build its map, open a map, and look a point up in it. Each call is proved, for all bytes and numbers,
 //! to follow the rules of document 01; this crate turns the replies into Rust values.
 //!
+//! A sheet is of version 1 or 2, by its third byte. The two differ only in what a face is, the record of kind 16: where its operand is at
+//! most 0 in version 1, and where it is less than 0 in version 2. So a point on a face satisfies the face in version 1, and its complement
+//! in version 2: there the face belongs to the wall.
+//!
 //! The library has no global state, so any number of threads may call it at the same time, on the same sheet and map too.
 //!
 //! The crate links `libzone.a`. If the environment variable `ZONE_LIB_DIR` is set while the crate is built, it is the full path of the
@@ -70,7 +74,8 @@ pub fn open(map: &[u8]) -> Result<usize, Refusal> {
     number(ffi::open(map))
 }
 
-/// Looks a point up in a zone map, with the sheet that the map was built from. The map is all of `map`, not a part of it.
+/// Looks a point up in a zone map, with the sheet that the map was built from, in the same version: a map does not say which version its
+/// sheet has. The map is all of `map`, not a part of it.
 pub fn lookup(sheet: &[u8], map: &[u8], point: [i32; 3]) -> Result<Answer, Refusal> {
     let reply = ffi::lookup(sheet, map, point);
     match (reply.code, reply.number) {

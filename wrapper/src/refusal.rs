@@ -23,7 +23,7 @@ pub enum Refusal {
     /// 1, of [`check`](crate::check), [`build`](crate::build) and [`lookup`](crate::lookup): the sheet has fewer than 3 bytes, or its
     /// length is not the one that it says.
     SheetLength,
-    /// 2, of the same calls: the sheet's version is not 1.
+    /// 2, of the same calls: the sheet's version is neither 1 nor 2.
     SheetVersion,
     /// 3, of the same calls: a record runs over the end, has an unknown kind or a wrong count, or is the 257th. With its offset in the
     /// sheet.
@@ -127,7 +127,7 @@ impl Display for Refusal {
         use Refusal::*;
         match self {
             SheetLength => write!(f, "the sheet has fewer than 3 bytes, or its length is not the one that it says"),
-            SheetVersion => write!(f, "the sheet's version is not 1"),
+            SheetVersion => write!(f, "the sheet's version is neither 1 nor 2"),
             Record { offset } => write!(
                 f,
                 "the record at byte {offset} of the sheet runs over the end, has an unknown kind or a wrong count, or is the 257th"

@@ -31,6 +31,13 @@ const HIGH_END: Refusal = Refusal::OverRoot {
     end: End::High,
 };
 
+/// The step room as a version 2 sheet: x less than 2 and y less than 2.
+fn strict() -> Vec<u8> {
+    let mut sheet = SHEET.to_vec();
+    sheet[2] = 2;
+    sheet
+}
+
 /// The map with one byte changed.
 fn damaged(at: usize, byte: u8) -> Vec<u8> {
     let mut bytes = map();
@@ -78,7 +85,7 @@ fn a_vector_has_the_length_of_the_map() {
 
 #[test]
 fn a_vector_is_refused_as_a_buffer_is() {
-    assert_eq!(build_vec(&[0, 1, 2], root(1)), Err(Refusal::SheetVersion));
+    assert_eq!(build_vec(&[0, 1, 3], root(1)), Err(Refusal::SheetVersion));
     assert_eq!(build_vec(SHEET, root(3)), Err(Refusal::Limits));
     assert_eq!(build_vec(&PASSED, AT_THE_END), Err(HIGH_END));
 }
@@ -118,13 +125,45 @@ fn points_of_the_step_room() {
 }
 
 #[test]
+fn the_step_room_as_version_2() {
+    assert_eq!(check(&strict()), Ok(8));
+    // At depth 1 the cube at the corner is gray, and the others are outside: their bounds begin at 0.
+    let four = [1, 4, 0, 1, 0, 0, 1, 0, 0, 1, 0, 0];
+    let map = build_vec(&strict(), root(1)).unwrap();
+    assert_eq!(map[19..], [four, four].concat());
+    let map = build_vec(&strict(), root(2)).unwrap();
+    assert_eq!((map.len(), open(&map)), (85, Ok(22)));
+    let at = |point| lookup(&strict(), &map, point);
+    assert_eq!(at([1, 0, 0]), Ok(Answer::Inside));
+    assert_eq!(at([2, 0, 0]), Ok(Answer::Outside));
+    assert_eq!(at([1, 1, 0]), Ok(Answer::Undecided));
+    assert_eq!(at([4, 0, 0]), Err(Refusal::NotInRoot));
+}
+
+#[test]
+fn a_leaf_is_answered_by_the_sheet_that_is_lent() {
+    for (point, in_1, in_2) in [
+        ([0, 0, 0], Answer::Inside, Answer::Inside),
+        ([2, 0, 0], Answer::Inside, Answer::Outside),
+        ([3, 0, 0], Answer::Outside, Answer::Outside),
+    ] {
+        assert_eq!(lookup(SHEET, &map(), point), Ok(in_1));
+        assert_eq!(lookup(&strict(), &map(), point), Ok(in_2));
+    }
+}
+
+#[test]
 fn bad_sheets_are_refused_alike_by_all_calls() {
     for (sheet, why) in [
         (&[0, 0][..], Refusal::SheetLength),
-        (&[0, 1, 2], Refusal::SheetVersion),
+        (&[0, 1, 0], Refusal::SheetVersion),
+        (&[0, 1, 3], Refusal::SheetVersion),
+        (&[0, 1, 255], Refusal::SheetVersion),
         (&[0, 3, 1, 1, 9], Refusal::Record { offset: 3 }),
+        (&[0, 3, 2, 1, 9], Refusal::Record { offset: 3 }),
         (&[0, 4, 1, 2, 8, 0], Refusal::Operand { record: 0 }),
         (&[0, 1, 1], Refusal::Solid { records: 0 }),
+        (&[0, 1, 2], Refusal::Solid { records: 0 }),
         (&[0, 3, 1, 1, 2], Refusal::Solid { records: 1 }),
     ] {
         assert_eq!(check(sheet), Err(why));
@@ -229,6 +268,9 @@ fn a_refusal_has_the_code_and_number_of_document_01() {
         why.to_string(),
         "the map's leaf at byte 22 is bad, by itself or for the sheet of a lookup, or the leaves stop short there"
     );
+    let why = check(&[0, 1, 3]).unwrap_err();
+    assert_eq!((why.code(), why.number()), (2, 0));
+    assert_eq!(why.to_string(), "the sheet's version is neither 1 nor 2");
     assert_eq!((HIGH_END.code(), HIGH_END.number()), (7, 7));
     assert_eq!(
         HIGH_END.to_string(),

@@ -199,9 +199,11 @@ fn both_versions(run: &mut Run) -> Result<(), String> {
     if let Some(told) = &held.broken {
         println!("VERSIONS: {told}");
     }
+    let (what, good) = held.line();
+    run.count(&what, good);
     let found = version_maps::run(run.setup, run.sizes.sheets())?;
     found.print();
-    for (what, good) in [held.line()].into_iter().chain(found.lines()) {
+    for (what, good) in found.lines() {
         run.count(&what, good);
     }
     Ok(())

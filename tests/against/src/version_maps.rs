@@ -5,7 +5,7 @@
 //! the solid begin or end at 0 over the cube; where two answers differ, a face of the solid is 0 at the point.
 
 use crate::before_03::whole_points;
-use crate::case::{Case, Lookup};
+use crate::case::{hex, Case, Lookup};
 use crate::demand3::{self, built, of_class, touching, Built};
 use crate::demand3_run::note;
 use crate::group::{on_two_servers, Setup};
@@ -120,7 +120,10 @@ impl Found {
         let [Some(one), Some(two)] = maps else {
             return match maps {
                 [None, None] => Ok(()),
-                _ => Err(format!("{:?}: refused in one version", plans[0].bytes())),
+                _ => Err(format!(
+                    "refused in one version: {}",
+                    hex(&plans[0].bytes())
+                )),
             };
         };
         self.compares(&plans[0], [&one, &two]);

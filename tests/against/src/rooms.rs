@@ -17,6 +17,8 @@ pub struct Drawing<'a> {
 /// Adds a shape to a drawing, and returns its record's number.
 pub type Shape = fn(&mut Drawing) -> usize;
 
+const ON_PLANES: (&str, Shape) = ("room: walls on planes of cubes", on_planes);
+
 const SHAPES: [(&str, Shape); 11] = [
     ("room: box", boxed),
     ("room: cylinder", cylinder),
@@ -28,7 +30,7 @@ const SHAPES: [(&str, Shape); 11] = [
     ("room: less a column", column),
     ("room: slanted faces", slanted),
     ("room: complement of a complement", twice_complement),
-    ("room: walls on planes of cubes", on_planes),
+    ON_PLANES,
 ];
 
 pub fn room(random: &mut Random) -> Plan {
@@ -41,6 +43,11 @@ pub fn room(random: &mut Random) -> Plan {
 /// A room in which a face is mentioned more than once.
 pub fn mentioning(random: &mut Random) -> Plan {
     of_shapes(random, &mentions::SHAPES)
+}
+
+/// A room whose walls lie on planes of cubes.
+pub fn planar(random: &mut Random) -> Plan {
+    of_shapes(random, &[ON_PLANES])
 }
 
 fn of_shapes(random: &mut Random, shapes: &[(&'static str, Shape)]) -> Plan {

@@ -11,6 +11,7 @@ use crate::demand3_run::note;
 use crate::group::{on_two_servers, Setup};
 use crate::plan::{self, Plan};
 use crate::random::Random;
+use crate::rooms;
 use crate::server::Server;
 use crate::tally::add_each;
 use crate::zeros;
@@ -52,9 +53,13 @@ pub fn run(setup: &Setup, sheets: u64) -> Result<Found, String> {
     Ok(all)
 }
 
-/// A sheet of demand 3 in each version, over one root, to a depth at which neither map is too long.
+/// A sheet of demand 3 in each version, or one whose walls lie on planes of cubes, over one root, to a depth at which neither
+/// map is too long.
 fn two_plans(random: &mut Random) -> [Plan; 2] {
-    let plan = demand3::sheet(random);
+    let plan = match random.below(4) {
+        0 => rooms::planar(random),
+        _ => demand3::sheet(random),
+    };
     let mut both = VERSIONS.map(|version| Plan {
         version,
         ..plan.clone()

@@ -14,7 +14,7 @@ static const uint8_t sheet[] = {
 static const char *why(uint32_t code) {
     switch (code) {
     case ZONE_SHEET_LENGTH: return "the sheet's length is wrong";
-    case ZONE_SHEET_VERSION: return "the sheet's version is not 1";
+    case ZONE_SHEET_VERSION: return "the sheet's version is neither 1 nor 2";
     case ZONE_RECORD: return "the sheet's record at this offset is bad";
     case ZONE_OPERAND: return "an operand of this record is bad";
     case ZONE_SOLID: return "the sheet has this many records, and the last is not logical";

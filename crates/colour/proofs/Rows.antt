@@ -51,11 +51,22 @@ pub out-row : faceState AtMost (from (pos 1) (pos 2)) 5 ≡ Out
 unfolding meets faceState
 out-row = refl
 
--- In a version 2 sheet, with bounds [-2, 0], [0, 0], [0, 2] and [-2, -1]: Single, Out, Out and In.
-pub strict-rows : faceState LessThan (from (negsuc 1) (pos 0)) 5 ∷ faceState LessThan (only (pos 0)) 5 ∷ faceState LessThan (from (pos 0) (pos 2)) 5 ∷ faceState LessThan (from (negsuc 1) (negsuc 0)) 5 ∷ []
-    ≡ Single 5 ∷ Out ∷ Out ∷ In ∷ []
+-- In a version 2 sheet, bounds [-2, 0]: Single. Bounds [0, 0] and [0, 2]: Out. Bounds [-2, -1]: In.
+pub strict-single-row : faceState LessThan (from (negsuc 1) (pos 0)) 5 ≡ Single 5
 unfolding meets faceState
-strict-rows = refl
+strict-single-row = refl
+
+pub strict-point-row : faceState LessThan (only (pos 0)) 5 ≡ Out
+unfolding meets faceState
+strict-point-row = refl
+
+pub strict-out-row : faceState LessThan (from (pos 0) (pos 2)) 5 ≡ Out
+unfolding meets faceState
+strict-out-row = refl
+
+pub strict-in-row : faceState LessThan (from (negsuc 1) (negsuc 0)) 5 ≡ In
+unfolding meets faceState
+strict-in-row = refl
 
 -- The faces left in the cube count, not those of the whole sheet: a face that holds all over the cube leaves the other alone.
 pub left-row : bothOf In (Single 6) ≡ Single 6

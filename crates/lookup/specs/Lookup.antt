@@ -23,7 +23,7 @@ use Rattle.lookup.specs.declared.Answer.the-variants.{Outside, Inside, U
 use Rattle.lookup.specs.declared.Reply.{Reply}
 use Rattle.lookup.specs.declared.Reply.the-variants.{Done, Refused}
 
--- A face at a point. A point is a cube of side 0, over which bounds are exact: the face's operand there is at most 0 exactly if its state is In.
+-- A face at a point. A point is a cube of side 0, over which bounds are exact: the face's operand there meets its comparison with 0 exactly if its state is In.
 unfoldable pub faceHolds : List Record → ℕ → Point → Bool
 faceHolds rs f p = isIn (getD (entries (pointCube p) rs) f blank .state)
 

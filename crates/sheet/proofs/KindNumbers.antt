@@ -1,7 +1,6 @@
 -- Document 01's table of kinds by its numbers: each row, that there are no others, and the sorts of a record and of its operands by its kind. And the versions.
 use mathlib.Core.Path.{_≡_, refl, sym, ap, ap₂, _∙_}
 use mathlib.Core.Bool.{true, false, cond, _&&_, true≢false, and-eq-true-iff}
-use mathlib.Core.List.{[], _∷_}
 use Prim.Native.Nat.{ℕ}
 use borrow.Author.Tests.{eqb-true}
 use lib.Dec.{eqb, leb}
@@ -141,12 +140,17 @@ asked-by-kind (Either p q) = refl
 asked-by-kind (Complement p) = refl
 
 -- ---- versions
--- of 0, 1, 2, 3 and 255 only 1 and 2 are versions
-version-rows : isVersion 0 ∷ isVersion 1 ∷ isVersion 2 ∷ isVersion 3 ∷ isVersion 255 ∷ [] ≡ false ∷ true ∷ true ∷ false ∷ false ∷ []
-unfolding isVersion
-version-rows = refl
+record Versions : Type 0 where
+  -- of 0, 1, 2, 3 and 255 only 1 and 2 are versions
+  none : isVersion 0 ≡ false
+  one : isVersion 1 ≡ true
+  two : isVersion 2 ≡ true
+  three : isVersion 3 ≡ false
+  last : isVersion 255 ≡ false
+  -- in version 1 a face means at most 0, in version 2 less than 0
+  at-most : comparisonOf 1 ≡ AtMost
+  less-than : comparisonOf 2 ≡ LessThan
 
--- in version 1 a face means at most 0, in version 2 less than 0
-comparison-rows : comparisonOf 1 ∷ comparisonOf 2 ∷ [] ≡ AtMost ∷ LessThan ∷ []
-unfolding comparisonOf
-comparison-rows = refl
+versions : Versions
+unfolding isVersion comparisonOf
+versions = record { none = refl; one = refl; two = refl; three = refl; last = refl; at-most = refl; less-than = refl }

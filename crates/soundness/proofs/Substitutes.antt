@@ -11,7 +11,7 @@ use lib.Signed.{leZ, ltZ}
 use Rattle.integers.specs.Least.{lesserOf, greaterOf}
 use Rattle.interval.specs.declared.Interval.{Interval}
 use Rattle.interval.specs.Rules.{from, only, difference, span, product, square}
-use Rattle.sheet.specs.declared.Comparison.the-variants.{AtMost}
+use Rattle.sheet.specs.declared.Comparison.the-variants.{AtMost, LessThan}
 use Rattle.sheet.specs.declared.Record.{Record}
 use Rattle.sheet.specs.declared.Record.the-variants.{Constant, X, Y, Difference, Face, Both}
 use Rattle.sheet.specs.Along.{along, onward}
@@ -102,6 +102,19 @@ called-out = record {
   wrong = true≢false;
 }
 
+-- ---- [-1, 0] called In in a version 2 sheet: black at x from 0 to 1 would then hold the wall's own face
+-- x is less than 1
+abbrev strictWall : List Record
+strictWall = X ∷ Constant (pos 1) ∷ Difference 0 1 ∷ Face LessThan 2 ∷ []
+
+called-in : Unsound strictWall (cube (pos 0) 1) (faceState AtMost (getD (entries (cube (pos 0) 1) strictWall) 2 blank .bounds) 3)
+unfolding meets faceState entryWith boundsOf stateWith across difference Sound inSolid holdsAt along onward meaningOf valueOf holdsOf
+called-in = record {
+  point = at (pos 1) (pos 0) 0;
+  closed = record { x = lies tt tt; y = lies tt tt; z = lies tt tt };
+  wrong = λ e. true≢false (sym e);
+}
+
 -- ---- Single kept through both of two faces
 keptOf : State → State → State
 keptOf s t = cond (isOut s || isOut t) Out (cond (isIn s) t s)
@@ -134,3 +147,8 @@ undecided i f = cond (ltZ (i .high) (pos 0)) In (cond (ltZ (pos 0) (i .low)) Out
 called-undecided : (f : ℕ) → undecided (from (negsuc 1) (pos 0)) f ≡ faceState AtMost (from (negsuc 1) (pos 0)) f → ⊥
 unfolding undecided meets faceState
 called-undecided f e = true≢false (sym (ap isIn e))
+
+-- [0, 2] called undecided in a version 2 sheet because zero is in it
+strict-undecided : (f : ℕ) → faceState AtMost (from (pos 0) (pos 2)) f ≡ faceState LessThan (from (pos 0) (pos 2)) f → ⊥
+unfolding meets faceState
+strict-undecided f e = true≢false (sym (ap isOut e))

@@ -1,5 +1,5 @@
 -- Building as it was before request 2026-03, when both and either gave Mixed for two states of which neither decides and neither leaves it to the other, even
--- for one face mentioned twice. Only the promises about maps of that time cite this.
+-- for one face mentioned twice. Only the promises about maps of that time cite this. (Version 2 sheets came later. What is said here holds of them as well.)
 use mathlib.Core.List.{List}
 use Prim.Native.Nat.{ℕ, _-_}
 use lib.ListN.{length, getD}

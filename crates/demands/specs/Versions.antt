@@ -54,7 +54,7 @@ OffFaces rs p = (f : ℕ) → hasFace rs f ≡ true → valueAt rs (operandOf rs
 abbrev pub SameBut : (ℕ → Type 0) → ZoneReply → ZoneReply → Type 0
 SameBut Code r t = (r ≡ t) ⊎ (Code (r .code) × Code (t .code))
 
--- maps of two such sheets that touch, black to white
+-- maps of two such sheets, where a black leaf of the first touches a white leaf of the second
 pub record Touching : Type 0 where
   pub one : List ℕ
   pub two : List ℕ
@@ -65,7 +65,7 @@ pub record Touching : Type 0 where
   pub built-white : Built two white
   pub touch : NoTouch white black → ⊥
 
--- Request 2026-07: faces that exclude themselves. The demands above are over sheets of either version, and say once what both share. Here is what differs.
+-- Request 2026-07: faces that exclude themselves. The three demands are over sheets of either version, and say once what both share. Here is what differs.
 pub record Versions : Type 0 where
   -- version 1: kind 16 means at most 0: In if b <= 0, Out if a > 0, otherwise Single
   pub one : (sheet : List ℕ) → GoodSheet sheet → (f : ℕ) → hasFace (recordsOf sheet) f ≡ true → getD sheet 2 0 ≡ 1
@@ -73,7 +73,8 @@ pub record Versions : Type 0 where
   -- "In version 2 sheets kind 16 means less than 0: In if b < 0, Out if a >= 0, otherwise Single."
   pub two : (sheet : List ℕ) → GoodSheet sheet → (f : ℕ) → hasFace (recordsOf sheet) f ≡ true → getD sheet 2 0 ≡ 2
       → FaceRule (λ v. v <ℤ pos 0) (λ v. pos 0 ≤ℤ v) (recordsOf sheet) f (operandOf (recordsOf sheet) f)
-  -- of two sheets with equal records, both are good or both are refused alike; so are building, but for the map, and a lookup in any map, but for the answer
+  -- Two sheets with equal records are both good or are refused alike. Building is refused alike too, but for the room that the map needs, and so is a lookup in any
+  -- map.
   pub same-check : (one two : List ℕ) → EqualRecords one two → zoneCheckOf one ≡ zoneCheckOf two
   pub same-build : (one two : List ℕ) → EqualRecords one two → (root : Root) (before : List ℕ)
       → SameBut (λ code. (code ≡ 0) ⊎ (code ≡ 8)) (zoneBuildOf one root before .reply) (zoneBuildOf two root before .reply)

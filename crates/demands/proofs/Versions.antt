@@ -5,8 +5,8 @@ use mathlib.Core.Logic.{_⊎_, inl, inr, _↔_}
 use mathlib.Core.List.{List, [], _∷_, _++_, map}
 use Prim.Native.Nat.{ℕ, zero, suc, _-_, _<_}
 use native.Mathlib.Omega.{arith}
-use lib.Dec.{T, ltb}
-use lib.IntN.{ℤ, pos, _+ℤ_, _*ℤ_}
+use lib.Dec.{ltb}
+use lib.IntN.{ℤ, pos}
 use lib.ListN.{length, getD, drop, replicate}
 use lib.Seq.{getD-append-seam}
 use lib.Signed.{leZ, ltZ, _≤ℤ_, _<ℤ_}
@@ -40,8 +40,9 @@ use Rattle.cube.specs.Points.{holdsPoint}
 use Rattle.zonemap.specs.Opening.{rootOf, leafIn, leavesIn}
 use Rattle.zonemap.specs.Leaves.{placeAt}
 use Rattle.zonemap.specs.StepRoom.{stepRoot, stepMap, strictMap}
-use Rattle.meaning.specs.Fractions.{FractionalPoint, whole, BetweenPlanes}
+use Rattle.meaning.specs.Fractions.{FractionalPoint, whole}
 use Rattle.meaning.specs.Truth.{Value, satisfies, Meaning, absent, valueOf, holdsOf, meaningOf, meanings, holdsAt, inSolid}
+use Rattle.meaning.proofs.Closed.{lies}
 use Rattle.colour.specs.States.{meets}
 use Rattle.colour.specs.Entries.{firstPast}
 use Rattle.pair.specs.Pairs.{pairRefusal}
@@ -265,10 +266,6 @@ built-white = record { root = stepRoot 1; before = room; after = strictMap; size
 
 abbrev corner : FractionalPoint
 corner = whole (record { x = pos 2; y = pos 0; z = pos 0 })
-
--- a number lies between two planes, by computation
-abbrev lies : {plane : ℤ} {side : ℕ} {a : ℤ} {n : ℕ} → T (leZ (plane *ℤ pos n) a) → T (leZ a ((plane +ℤ pos side) *ℤ pos n)) → BetweenPlanes plane side a n
-lies l u = record { low = record { le = l }; high = record { le = u } }
 
 white-there : Touches strictMap corner 1
 unfolding leavesIn leafIn placeAt cubeAt lowAt cornerOf rootOf unsignedAt signed32

@@ -1,7 +1,9 @@
--- The root as a closed cube is the closed root, axis by axis; and a closed cube includes its planes, the high ones too.
+-- The root as a closed cube is the closed root, axis by axis; and a closed cube includes its planes, the high ones too. For given numbers that is computed.
 use Prim.Native.Nat.{ℕ, _≤_}
 use native.Mathlib.Omega.{arith}
-use lib.IntN.{ℤ, pos, _+ℤ_}
+use lib.Dec.{T}
+use lib.IntN.{ℤ, pos, _+ℤ_, _*ℤ_}
+use lib.Signed.{leZ}
 use Rattle.integers.proofs.Naturals.{ints, +-is}
 use Rattle.cube.specs.declared.Root.{Root}
 use Rattle.cube.specs.declared.Cube.{Cube}
@@ -24,3 +26,7 @@ from-low-to-high q a b c ha hb hc = record { x = on (q .x) a ha; y = on (q .y) b
   where
     on : (low : ℤ) (i : ℕ) → i ≤ q .side → BetweenPlanes low (q .side) (low +ℤ pos i) 1
     on low i h = whole-between low (q .side) (low +ℤ pos i) (omega (arith, ints, +-is low (pos i))) (omega (arith, ints, +-is low (pos i), +-is low (pos (q .side))))
+
+-- a number lies between two planes, by computation
+abbrev pub lies : {plane : ℤ} {side : ℕ} {a : ℤ} {n : ℕ} → T (leZ (plane *ℤ pos n) a) → T (leZ a ((plane +ℤ pos side) *ℤ pos n)) → BetweenPlanes plane side a n
+lies l u = record { low = record { le = l }; high = record { le = u } }

@@ -4,8 +4,7 @@ use mathlib.Core.Bool.{Bool, true, false, cond, _&&_, _||_, true≢false}
 use mathlib.Core.List.{List, [], _∷_}
 use Prim.Native.Nat.{ℕ, zero, suc, _*_}
 use native.Mathlib.Nat.{zero-lt-suc}
-use lib.Dec.{T}
-use lib.IntN.{ℤ, pos, negsuc, _+ℤ_, _*ℤ_}
+use lib.IntN.{ℤ, pos, negsuc, _+ℤ_}
 use lib.ListN.{getD}
 use lib.Signed.{leZ, ltZ}
 use Rattle.integers.specs.Least.{lesserOf, greaterOf}
@@ -22,8 +21,9 @@ use Rattle.colour.specs.declared.State.the-variants.{Out, In, Single, Mixed}
 use Rattle.colour.specs.Bounds.{across, boundsOf}
 use Rattle.colour.specs.States.{isIn, isOut, meets, faceState, stateWith}
 use Rattle.colour.specs.Entries.{blank, faceBounds, entryWith, entries}
-use Rattle.meaning.specs.Fractions.{FractionalPoint, BetweenPlanes, InClosed}
+use Rattle.meaning.specs.Fractions.{FractionalPoint, InClosed}
 use Rattle.meaning.specs.Truth.{valueOf, holdsOf, meaningOf, holdsAt, inSolid}
+use Rattle.meaning.proofs.Closed.{lies}
 use Rattle.soundness.specs.Claims.{Sound}
 
 -- a state of the solid over a cube that is not sound at a point of the closed cube
@@ -64,10 +64,6 @@ sampled rs q = let inside : ℕ → Bool = λ k. inSolid rs (corner q k) in cond
 -- the strip with x from 1 to 2 misses every corner of a cube with x from 0 to 4
 abbrev strip : List Record
 strip = X ∷ Constant (pos 1) ∷ Constant (pos 2) ∷ Difference 1 0 ∷ Difference 0 2 ∷ Face AtMost 3 ∷ Face AtMost 4 ∷ Both 5 6 ∷ []
-
--- a number lies between two planes, by computation
-abbrev lies : {plane : ℤ} {side : ℕ} {a : ℤ} {n : ℕ} → T (leZ (plane *ℤ pos n) a) → T (leZ a ((plane +ℤ pos side) *ℤ pos n)) → BetweenPlanes plane side a n
-lies l u = record { low = record { le = l }; high = record { le = u } }
 
 corners-sampled : Unsound strip (cube (pos 0) 4) (sampled strip (cube (pos 0) 4))
 unfolding sampled allOf anyOf Sound inSolid holdsAt along onward meaningOf valueOf holdsOf

@@ -25,6 +25,7 @@ use Rattle.soundness.proofs.StatesSound.{satisfied}
 use Rattle.demands.specs.Terms.{boundsOver, stateOver}
 use Rattle.demands.specs.Versions.{operandOf, valueAt, FaceRule}
 
+-- ---- the record of a face
 is-face : (r : Record) → isFace r ≡ true → (by : Comparison) × (a : ℕ) × (r ≡ Face by a)
 is-face (Constant c) e = absurd (true≢false (sym e))
 is-face X e = absurd (true≢false (sym e))

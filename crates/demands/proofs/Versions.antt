@@ -7,16 +7,16 @@ use Prim.Native.Nat.{ℕ, zero, suc, _-_, _<_}
 use native.Mathlib.Omega.{arith}
 use lib.Dec.{ltb}
 use lib.IntN.{ℤ, pos}
-use lib.ListN.{length, getD, drop, replicate}
+use lib.ListN.{length, getD, replicate}
 use lib.Seq.{getD-append-seam}
 use lib.Signed.{leZ, ltZ, _≤ℤ_, _<ℤ_}
 use Rattle.bigendian.specs.Numbers.{unsignedAt, signed32}
 use Rattle.integers.specs.First.{onFirst}
 use Rattle.integers.proofs.Order.{≤-both, by-test, leZ-true, leZ-false, ltZ-false, ge-test}
 use Rattle.replies.specs.declared.Refusal.{Refusal}
-use Rattle.replies.specs.declared.Refusal.the-variants.{Limits, OverRoot, Short, NotInRoot}
+use Rattle.replies.specs.declared.Refusal.the-variants.{Limits, OverRoot, NotInRoot}
 use Rattle.replies.specs.declared.Over.{Over}
-use Rattle.replies.specs.declared.Reply.the-variants.{Done as Counts, Refused as Refuses}
+use Rattle.replies.specs.declared.Reply.the-variants.{Refused as Refuses}
 use Rattle.replies.specs.Table.{refusalOf}
 use Rattle.sheet.specs.declared.Comparison.{Comparison}
 use Rattle.sheet.specs.declared.Comparison.the-variants.{AtMost, LessThan}
@@ -99,19 +99,18 @@ overRoot refused outside past map out =
 abbrev atPoint : List Refusal → List Over → Bool → Answer → Reply
 atPoint refused past outside answer = onFirst refused Refused (onFirst past (λ o. Refused (OverRoot o)) (cond outside (Refused NotInRoot) (Done answer)))
 
--- from the same refusals on, if there is one, two builds are refused alike; otherwise each has a map, which is stored or does not fit
+-- a map is stored or does not fit
+stored-code : (map out : List ℕ) → (byNumber (storedOf map out .reply) .code ≡ 0) ⊎ (byNumber (storedOf map out .reply) .code ≡ 8)
+unfolding storedOf
+stored-code map out = by-test (ltb (length out) (length map)) (λ short. inr (rw short)) (λ fits. inl (rw fits))
+
+-- from the same refusals on, if there is one, two builds are refused alike; otherwise each has a map
 built-alike : (refused : List Refusal) (out-of-limits : Bool) (past : List Over) (map other out : List ℕ)
     → SameBut (λ c. (c ≡ 0) ⊎ (c ≡ 8)) (byNumber (overRoot refused out-of-limits past map out .reply)) (byNumber (overRoot refused out-of-limits past other out .reply))
-unfolding storedOf
 built-alike (why ∷ later) outside past map other out = inl refl
 built-alike [] true past map other out = inl refl
 built-alike [] false (o ∷ later) map other out = inl refl
-built-alike [] false [] map other out = inr (code (ltb (length out) (length map)) map, code (ltb (length out) (length other)) other)
-  where
-    code : (short : Bool) (m : List ℕ) → (byNumber (cond short (outcome (Refuses (Short (length m))) out) (outcome (Counts (length m)) (m ++ drop (length m) out)) .reply) .code ≡ 0)
-        ⊎ (byNumber (cond short (outcome (Refuses (Short (length m))) out) (outcome (Counts (length m)) (m ++ drop (length m) out)) .reply) .code ≡ 8)
-    code true m = inr refl
-    code false m = inl refl
+built-alike [] false [] map other out = inr (stored-code map out, stored-code other out)
 
 -- and two lookups; otherwise each has an answer
 answered-alike : (refused : List Refusal) (past : List Over) (outside : Bool) (answer other : Answer)

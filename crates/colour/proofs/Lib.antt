@@ -9,3 +9,4 @@ pub mod FirstPast
 pub mod Told
 pub mod Smaller
 pub mod Exact
+pub mod Says

@@ -18,7 +18,7 @@ use interval::Interval;
 use sheet::Record;
 
 // The bounds of a coordinate.
-fn across(low: i32, side: u32) -> Interval
+pub fn across(low: i32, side: u32) -> Interval
     requires { ⌜ natAbs low + side ≤ 2 ^ 21 ⌝ }
     ensures { λ r. ⌜ r ≡ across low side ⌝ }
 {
@@ -29,7 +29,7 @@ fn across(low: i32, side: u32) -> Interval
 }
 
 // The bounds of record a.
-fn held_at<'a>(low: &'a [i64], high: &'a [i64], a: u8) -> Interval
+pub fn held_at<'a>(low: &'a [i64], high: &'a [i64], a: u8) -> Interval
     requires { ⌜ Held (now low) (now high) ⌝ }
     ensures { λ r. ⌜ r ≡ heldAt (now (low .entry)) (now (high .entry)) a ⌝ }
 {

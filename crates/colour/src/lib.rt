@@ -4,8 +4,12 @@ mod entries;
 mod judging;
 mod states;
 
+pub use entries::across;
+pub use entries::held_at;
 pub use judging::judge;
 use replies::Over;
+pub use states::face_state;
+pub use states::state_at;
 
 // What is known of a logical record over a cube: it holds nowhere in the cube; it holds all over it; it holds exactly where one face does; it holds exactly
 // where that face does not; or nothing is known. The variants are in the order of their classes, 0 to 4.

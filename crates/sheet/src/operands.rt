@@ -52,7 +52,7 @@ impl Record {
     }
 
     // The number of its first operand; 0 where it has none.
-    fn first(self) -> u8
+    pub fn first(self) -> u8
         ensures { λ r. ⌜ r ≡ firstOf self ⌝ }
     {
         match self {
@@ -72,7 +72,7 @@ impl Record {
     }
 
     // The number of its last operand, which is the first where it has one; 0 where it has none.
-    fn second(self) -> u8
+    pub fn second(self) -> u8
         ensures { λ r. ⌜ r ≡ secondOf self ⌝ }
     {
         match self {

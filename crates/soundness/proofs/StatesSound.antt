@@ -1,16 +1,13 @@
 -- States are sound: what a record's state over a closed cube says is true at every point of it, fractions included.
 use mathlib.Core.Path.{_≡_, refl, sym, ap, _∙_}
-use mathlib.Core.Bool.{Bool, true, false, not, _&&_, _||_, and-true, and-false, and-self, and-not-self, or-true, or-false, or-self, or-not-self, Bool·not-not, true≢false}
-use mathlib.Core.Logic.{_⊎_, inl, inr, ⊎-elim}
+use mathlib.Core.Bool.{Bool, true, false, not, _&&_, _||_, and-true, and-false, and-self, and-not-self, or-true, or-false, or-self, or-not-self, Bool·not-not}
+use mathlib.Core.Logic.{_⊎_, inl, inr}
 use mathlib.Core.List.{List, _∷_, _++_}
 use Prim.Native.Nat.{ℕ, _^_, _<_}
 use native.Mathlib.Nat.{one-le-pow}
-use native.Mathlib.Omega.{arith}
 use lib.IntN.{ℤ, pos, _*ℤ_}
 use lib.ListN.{length, getD}
-use lib.Signed.{_≤ℤ_}
-use Rattle.integers.proofs.Naturals.{ints}
-use Rattle.integers.proofs.Order.{≤-trans, by-test, leZ-true, ltZ-true, le-test, lt-test, same-sign, same-sign-strict}
+use Rattle.integers.proofs.Order.{by-test, same-sign, same-sign-strict}
 use Rattle.interval.specs.declared.Interval.{Interval}
 use Rattle.sheet.specs.declared.Comparison.{Comparison}
 use Rattle.sheet.specs.declared.Comparison.the-variants.{AtMost, LessThan}
@@ -20,10 +17,10 @@ use Rattle.sheet.proofs.Along.{Pairs, length-along, entry, related-in}
 use Rattle.cube.specs.declared.Cube.{Cube}
 use Rattle.colour.specs.declared.State.{State}
 use Rattle.colour.specs.declared.State.the-variants.{Out, In, Single, Comp, Mixed}
-use Rattle.colour.specs.States.{isIn, isOut, isSame, meets, faceState, complementOf, otherwiseOf, joinedBy, bothOf, eitherOf, stateWith}
+use Rattle.colour.specs.States.{isIn, isOut, meets, faceState, complementOf, bothOf, eitherOf, stateWith}
 use Rattle.colour.specs.Entries.{Entry, blank, entryWith, entryOf, entries}
-use Rattle.colour.proofs.Otherwise.{opposite-turn, same-is, is-same, otherwise-same, otherwise-opposite, otherwise-mixed}
 use Rattle.colour.proofs.Joined.{is-in, is-out}
+use Rattle.colour.proofs.Says.{meets-below, fails-above, joined-says}
 use Rattle.meaning.specs.Fractions.{FractionalPoint, InClosed}
 use Rattle.meaning.specs.Truth.{Value, satisfies, Meaning, absent, holdsOf, meaningOf, meanings, holdsAt}
 use Rattle.soundness.specs.Claims.{HoldsValue, Sound}
@@ -41,16 +38,6 @@ meets-scaled : (by : Comparison) (a : ℤ) (n : ℕ) → 0 < n → meets by (a *
 unfolding meets
 meets-scaled AtMost a n h = same-sign a n h
 meets-scaled LessThan a n h = same-sign-strict a n h
-
--- what is less than a number that meets it meets it too
-meets-below : (by : Comparison) (a b : ℤ) → a ≤ℤ b → meets by b ≡ true → meets by a ≡ true
-unfolding meets
-meets-below AtMost a b h t = le-test a (pos 0) (≤-trans _ _ _ h (leZ-true b (pos 0) t))
-meets-below LessThan a b h t = lt-test a (pos 0) (omega (arith, ints, ltZ-true b (pos 0) t))
-
--- so what is greater than one that does not, does not
-fails-above : (by : Comparison) (a b : ℤ) → b ≤ℤ a → meets by b ≡ false → meets by a ≡ false
-fails-above by a b h f = by-test (meets by a) (λ t. absurd (true≢false (sym (meets-below by b a h t) ∙ f))) (λ t. t)
 
 -- ---- each rule, once
 module _ (face : ℕ → Bool) where
@@ -88,7 +75,7 @@ module _ (face : ℕ → Bool) where
   unfolding Sound
   out-fails s a e h = rw (is-out s e) at h
 
-  -- two states that are the same say the same of two truths, and a state and its complement say opposite things, unless nothing is known
+  -- a state says one thing, unless nothing is known
   same-truth : (s : State) (a b : Bool) → Sound face s a → Sound face s b → (s ≡ Mixed) ⊎ (a ≡ b)
   unfolding Sound
   same-truth Out a b h k = inr (h ∙ sym k)
@@ -97,51 +84,19 @@ module _ (face : ℕ → Bool) where
   same-truth (Comp f) a b h k = inr (h ∙ sym k)
   same-truth Mixed a b h k = inl refl
 
-  -- the rule by which both and either join two states
-  module _ (decides : State → Bool) (decided : State) (leaves : State → Bool) (join : Bool → Bool → Bool)
-      (first-decides : (s : State) (a b : Bool) → decides s ≡ true → Sound face s a → Sound face decided (join a b))
-      (second-decides : (t : State) (a b : Bool) → decides t ≡ true → Sound face t b → Sound face decided (join a b))
-      (first-leaves : (s : State) (a b : Bool) → leaves s ≡ true → Sound face s a → join a b ≡ b)
-      (second-leaves : (t : State) (a b : Bool) → leaves t ≡ true → Sound face t b → join a b ≡ a)
-      (twice : (a : Bool) → join a a ≡ a)
-      (opposites : (a : Bool) → Sound face decided (join a (not a)))
-      (s t : State) (a b : Bool) (h : Sound face s a) (k : Sound face t b) where
-    -- two states where neither decides and neither leaves it to the other: a face mentioned twice, a face and its complement, or any two
-    same-sound : s ≡ t → Sound face s (join a b)
-    same-sound e =
-        ⊎-elim (λ (m : s ≡ Mixed). rw m (mixed-sound (join a b))) (λ (q : a ≡ b). rw (← q, twice a) h)
-        (same-truth s a b h (rw (← e) at k))
-
-    opposite-sound : isSame s t ≡ false → s ≡ complementOf t → Sound face decided (join a b)
-    opposite-sound n e =
-        ⊎-elim (λ (m : s ≡ Mixed). absurd (true≢false (sym (is-same s t (m ∙ sym (opposite-turn s t e ∙ ap complementOf m))) ∙ n)))
-        (λ (q : not b ≡ a). rw (← Bool·not-not b, q) (opposites a))
-        (same-truth s (not b) a (rw (← e) at (complement-sound t b k)) h)
-
-    otherwise-sound : Sound face (otherwiseOf decided s t) (join a b)
-    otherwise-sound =
-        by-test (isSame s t) (λ e. rw (sym (otherwise-same decided s t _ refl e)) (same-sound (same-is s t e)))
-        (λ e. by-test (isSame s (complementOf t)) (λ f. rw (sym (otherwise-opposite decided s t _ refl e _ refl _ refl f)) (opposite-sound e (same-is s (complementOf t) f)))
-        (λ f. rw (sym (otherwise-mixed decided s t _ refl e _ refl _ refl f)) (mixed-sound (join a b))))
-
-    joined-sound : Sound face (joinedBy otherwiseOf decides decided leaves s t) (join a b)
-    unfolding joinedBy
-    joined-sound =
-        by-test (decides s) (λ e. rw e (first-decides s a b e h))
-        (λ e. by-test (decides t) (λ f. rw (e, f) (second-decides t a b f k))
-        (λ f. by-test (leaves s) (λ g. rw (e, f, g, first-leaves s a b g h) k)
-        (λ g. by-test (leaves t) (λ i. rw (e, f, g, i, second-leaves t a b i k) h)
-        (λ i. rw (e, f, g, i) otherwise-sound))))
-
   pub both-sound : (s t : State) (a b : Bool) → Sound face s a → Sound face t b → Sound face (bothOf s t) (a && b)
   unfolding Sound
   both-sound =
-      joined-sound isOut Out isIn _&&_ (λ s a b e h. rw (out-fails s a e h)) (λ t a b e k. rw (out-fails t b e k) (and-false a)) (λ s a b e h. rw (in-holds s a e h)) (λ t a b e k. rw (in-holds t b e k) (and-true a)) and-self and-not-self
+      joined-says (Sound face) not mixed-sound complement-sound Bool·not-not same-truth isOut Out isIn _&&_
+      (λ s a b e h. rw (out-fails s a e h)) (λ t a b e k. rw (out-fails t b e k) (and-false a)) (λ s a b e h. rw (in-holds s a e h)) (λ t a b e k. rw (in-holds t b e k) (and-true a))
+      and-self (λ s a n h. and-not-self a)
 
   pub either-sound : (s t : State) (a b : Bool) → Sound face s a → Sound face t b → Sound face (eitherOf s t) (a || b)
   unfolding Sound
   either-sound =
-      joined-sound isIn In isOut _||_ (λ s a b e h. rw (in-holds s a e h)) (λ t a b e k. rw (in-holds t b e k) (or-true a)) (λ s a b e h. rw (out-fails s a e h)) (λ t a b e k. rw (out-fails t b e k) (or-false a)) or-self or-not-self
+      joined-says (Sound face) not mixed-sound complement-sound Bool·not-not same-truth isIn In isOut _||_
+      (λ s a b e h. rw (in-holds s a e h)) (λ t a b e k. rw (in-holds t b e k) (or-true a)) (λ s a b e h. rw (out-fails s a e h)) (λ t a b e k. rw (out-fails t b e k) (or-false a))
+      or-self (λ s a n h. or-not-self a)
 
 -- ---- all records
 module _ (q : Cube) (p : FractionalPoint) (h : InClosed q p) (rs : List Record) where

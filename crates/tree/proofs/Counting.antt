@@ -12,8 +12,9 @@ use Rattle.cube.specs.Cubes.{childOf}
 use Rattle.colour.specs.declared.State.{State}
 use Rattle.tree.specs.Visit.{upto}
 use Rattle.tree.specs.Solid.{leafOf, leavesBelow}
+use Rattle.tree.specs.Walk.{Split}
 use Rattle.tree.proofs.Visits.{upto-none, upto-length, upto-most}
-use Rattle.tree.proofs.Cubes.{kidLeaves, kid-leaves, leaves-split, leaves-end, leaves-few, Split}
+use Rattle.tree.proofs.Cubes.{kidLeaves, kid-leaves, leaves-split, leaves-end, leaves-few}
 
 -- a cube that is not split
 module _ (over : Cube → State) (left : ℕ) (q : Cube) where

@@ -1,15 +1,14 @@
 -- What a cube and its children contribute; and if no record passes the limit over a cube, none does over a smaller one.
-use mathlib.Core.Path.{_≡_, refl, sym, ap, _∙_}
+use mathlib.Core.Path.{_≡_, refl}
 use mathlib.Core.Bool.{true, false, not}
 use mathlib.Core.List.{List, [], _∷_}
-use Prim.Native.Nat.{ℕ, zero, suc, _+_, _-_, _^_, _≤_, _<_}
+use Prim.Native.Nat.{ℕ, zero, suc, _-_, _^_, _≤_, _<_}
 use native.Mathlib.Nat.{zero-lt-suc, le-trans, pow-le-pow-right}
 use native.Mathlib.Omega.{arith}
 use borrow.Author.Tests.{not-true, not-false, eqb-true, eqb-false, ne-eqb}
 use lib.Dec.{eqb}
-use lib.ListN.{length, getD}
+use lib.ListN.{length}
 use Rattle.integers.proofs.Order.{by-test}
-use Rattle.replies.specs.declared.Over.{Over}
 use Rattle.sheet.specs.declared.Record.{Record}
 use Rattle.cube.specs.declared.Cube.{Cube}
 use Rattle.cube.specs.Limits.{Near}
@@ -17,20 +16,13 @@ use Rattle.cube.specs.Cubes.{childOf}
 use Rattle.zonemap.specs.declared.Leaf.{Leaf}
 use Rattle.cube.proofs.Cubes.{near-fewer, child-near, child-inside}
 use Rattle.colour.specs.declared.State.{State}
-use Rattle.colour.specs.declared.Judged.{Judged}
-use Rattle.colour.specs.declared.Judged.the-variants.{Known, Past}
-use Rattle.colour.specs.Entries.{blank, entries, judgedOf, firstPast}
+use Rattle.colour.specs.Entries.{firstPast}
 use Rattle.colour.specs.States.{classOf}
-use Rattle.colour.proofs.Told.{known-is, past-first}
 use Rattle.colour.proofs.Smaller.{none-smaller}
 use Rattle.tree.specs.Visit.{upto, visit}
-use Rattle.tree.specs.Solid.{solidState, isGray, leafOf, leavesBelow}
+use Rattle.tree.specs.Solid.{isGray, leafOf, leavesBelow}
+use Rattle.tree.specs.Walk.{Split}
 use Rattle.tree.proofs.Visits.{upto-length, upto-fewer, kid, visit-end, visit-flat, visit-gray, visit-most}
-
--- a cube that is split
-pub record Split (over : Cube → State) (left : ℕ) (q : Cube) : Type 0 where
-  pub deep : 0 < left
-  pub gray : isGray over q ≡ true
 
 module _ (over : Cube → State) where
   -- the leaves of child k
@@ -97,19 +89,6 @@ module _ (rs : List Record) where
   -- the limit
   pub child-none : (q : Cube) → firstPast rs q ≡ [] → (k : ℕ) → firstPast rs (childOf q k) ≡ []
   child-none q none k = none-smaller (childOf q k) q (child-inside q k) rs none
-
-  -- a cube that was judged, over which no record passes the limit
-  module _ (q : Cube) (solid : ℕ) (last : solid + 1 ≡ length rs) (j : Judged) (e : j ≡ judgedOf rs q solid) where
-    pub known-state : (state : State) → j ≡ Known state → state ≡ solidState rs q
-    unfolding solidState
-    known-state state k =
-        known-is rs q q refl solid j e state k ∙ ap (λ (n : ℕ). getD (entries q rs) n blank .state) (let z : solid ≡ length rs - 1 = omega arith in z)
-
-    -- so the other case cannot occur
-    pub not-past : firstPast rs q ≡ [] → (o : Over) → j ≡ Past o → (state : State) → state ≡ solidState rs q
-    not-past none o k state =
-        let z : [] ≡ o ∷ [] = sym none ∙ past-first rs q q refl solid j e o k in
-        let y : _≡_ {A = ℕ} 0 1 = ap length z in absurd (omega arith)
 
 -- ---- what the recursion requires of the cube and of its children
 module _ (left : ℕ) (q : Cube) (near : Near left q) where

@@ -3,3 +3,4 @@ pub mod Cubes
 pub mod Counting
 pub mod Stores
 pub mod Rows
+pub mod Walking

@@ -15,8 +15,9 @@ use Rattle.zonemap.specs.Map.{leafBytes, leavesBytes}
 use Rattle.zonemap.proofs.Bytes.{leaves-bytes-length, leaves-bytes-append}
 use Rattle.tree.specs.Visit.{upto}
 use Rattle.tree.specs.Solid.{leafBy, leafOf, leavesBelow}
+use Rattle.tree.specs.Walk.{Split}
 use Rattle.tree.proofs.Visits.{upto-none, upto-more, upto-length, upto-most}
-use Rattle.tree.proofs.Cubes.{kidLeaves, kid-leaves, leaves-split, Split}
+use Rattle.tree.proofs.Cubes.{kidLeaves, kid-leaves, leaves-split}
 
 -- the leaves ls were written into d from `at` on: r is the offset after them, and `out` has their bytes
 abbrev Put : List Leaf → List ℕ → ℕ → ℕ → List ℕ → Type 0

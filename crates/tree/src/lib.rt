@@ -1,7 +1,6 @@
-// The tree of cubes: the solid's state over a cube, and the leaves below it, counted and written.
+// The tree of cubes: the leaves below a cube, counted and written.
 
 mod leaves;
 
 pub use leaves::count;
-pub use leaves::solid_state;
 pub use leaves::write;

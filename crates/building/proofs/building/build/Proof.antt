@@ -1,6 +1,6 @@
 -- `building::building::build` meets its contract: the sheet's own replies come first.
 use Rattle.sheet.proofs.Good.{good-some}
-use Rattle.building.proofs.Outcomes.{bad-sheet, last-is, last-fits, good-sheet}
+use Rattle.building.proofs.Outcomes.{bad-sheet, last-fits, checked, good-sheet}
 use borrow.Author.Needs.{needs}
 use Rattle.building.proofs.building.build.Statement.{statement}
 use Rattle.building.proofs.building.build.Tie as tie
@@ -18,7 +18,7 @@ cast-over-root : tie.Need-cast-over-root
 cast-over-root c = search (needs, last-fits)
 
 over-root-requires : tie.Need-over-root-requires
-over-root-requires c κs = search (needs, last-is)
+over-root-requires c κs = search (needs, checked)
 
 same-length : tie.Need-same-length
 same-length c = search needs

@@ -1,7 +1,7 @@
 -- `building::building::over_root` meets its contract: the limits of the root, then the limit of the bounds over it.
 use Rattle.cube.proofs.Cubes.{root-small, near-once}
 use Rattle.colour.proofs.Told.{known-none}
-use Rattle.building.proofs.Outcomes.{outside, within, over-root, under-limit}
+use Rattle.building.proofs.Outcomes.{checked-count, outside, within, over-root, under-limit}
 use borrow.Author.Needs.{needs}
 use Rattle.building.proofs.building.over_root.Statement.{statement}
 use Rattle.building.proofs.building.over_root.Tie as tie
@@ -19,7 +19,7 @@ slice-aggregate-list-offsets : tie.Need-slice-aggregate-list-offsets
 slice-aggregate-list-offsets c = search needs
 
 list-offsets-requires : tie.Need-list-offsets-requires
-list-offsets-requires c κs = search needs
+list-offsets-requires c κs = search (needs, checked-count)
 
 slice-aggregate-judge : tie.Need-slice-aggregate-judge
 slice-aggregate-judge c = search needs
@@ -28,16 +28,16 @@ cube-requires : tie.Need-cube-requires
 cube-requires c κs = search (needs, within, root-small)
 
 judge-requires : tie.Need-judge-requires
-judge-requires c κs = search (needs, within, near-once)
+judge-requires c κs = (search needs, (search (needs, checked-count), search (needs, within, near-once)))
 
 enum-told : tie.Need-enum-told
 enum-told c = search needs
 
-slice-aggregate-stored : tie.Need-slice-aggregate-stored
-slice-aggregate-stored c = search needs
+slice-aggregate-started : tie.Need-slice-aggregate-started
+slice-aggregate-started c = search needs
 
-stored-requires : tie.Need-stored-requires
-stored-requires c κs = (search needs, (search needs, (search (needs, within), known-none _ _ _ (c .before .before .before .before .before .cube .ensures) _ _ (c .before .before .before .before .judge .ensures) _ (c .before .before .enum-told .given .1))))
+started-requires : tie.Need-started-requires
+started-requires c κs = (search needs, (search needs, (search (needs, within), known-none _ _ _ (c .before .before .before .before .before .cube .ensures) _ _ (c .before .before .before .before .judge .ensures) _ (c .before .before .enum-told .given .1))))
 
 same-length : tie.Need-same-length
 same-length c = search needs
@@ -64,8 +64,8 @@ over-root-spec =
     cube-requires
     judge-requires
     enum-told
-    slice-aggregate-stored
-    stored-requires
+    slice-aggregate-started
+    started-requires
     same-length
     returns-2
     enum-known-over

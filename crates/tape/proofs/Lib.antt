@@ -1,0 +1,17 @@
+pub mod Slices
+pub mod ByKind
+pub mod Words
+pub mod Filling
+pub mod Owning
+pub mod Phases
+pub mod Worked
+pub mod Keeping
+pub mod Twins
+pub mod Renaming
+pub mod Shortened
+pub mod Carrying
+pub mod Packed
+pub mod Walking
+pub mod Putting
+pub mod Placing
+pub mod Starting

@@ -1,0 +1,5 @@
+pub mod Memory
+pub mod Working
+pub mod Shortening
+pub mod Lent
+pub mod Listing

@@ -12,16 +12,16 @@ pub struct Interval {
 }
 
 impl Interval {
-    fn new(low: i64, high: i64) -> Interval {
+    pub fn new(low: i64, high: i64) -> Interval {
         Interval { low, high }
     }
 
     fn sum(self, other: Interval) -> Option<Interval> {
-        Interval::new(self.low + other.low, self.high + other.high).limited()
+        self.plus(other).limited()
     }
 
     fn difference(self, other: Interval) -> Option<Interval> {
-        Interval::new(self.low - other.high, self.high - other.low).limited()
+        self.minus(other).limited()
     }
 
     /// If one of the four products does not fit an i64, an end is past the limit, since all four lie between the ends.
@@ -30,12 +30,42 @@ impl Interval {
         let b = self.low.checked_mul(other.high)?;
         let c = self.high.checked_mul(other.low)?;
         let d = self.high.checked_mul(other.high)?;
-        Interval::new(a.min(b).min(c.min(d)), a.max(b).max(c.max(d))).limited()
+        Interval::around([a, b, c, d]).limited()
     }
 
     fn square(self) -> Option<Interval> {
         let a = self.low.checked_mul(self.low)?;
         let b = self.high.checked_mul(self.high)?;
+        self.of_squares(a, b).limited()
+    }
+
+    // The same where they are known to be within the limit.
+
+    pub fn plus(self, other: Interval) -> Interval {
+        Interval::new(self.low + other.low, self.high + other.high)
+    }
+
+    pub fn minus(self, other: Interval) -> Interval {
+        Interval::new(self.low - other.high, self.high - other.low)
+    }
+
+    pub fn times(self, other: Interval) -> Interval {
+        let (a, b) = (self.low * other.low, self.low * other.high);
+        let (c, d) = (self.high * other.low, self.high * other.high);
+        Interval::around([a, b, c, d])
+    }
+
+    pub fn squared(self) -> Interval {
+        self.of_squares(self.low * self.low, self.high * self.high)
+    }
+
+    /// From the least to the greatest of four numbers.
+    fn around([a, b, c, d]: [i64; 4]) -> Interval {
+        Interval::new(a.min(b).min(c.min(d)), a.max(b).max(c.max(d)))
+    }
+
+    /// The bounds of the square, by the squares of the ends.
+    fn of_squares(self, a: i64, b: i64) -> Interval {
         let low = if self.low >= 0 {
             a
         } else if self.high <= 0 {
@@ -43,7 +73,7 @@ impl Interval {
         } else {
             0
         };
-        Interval::new(low, a.max(b)).limited()
+        Interval::new(low, a.max(b))
     }
 
     /// The interval, if its ends are within the limit.
@@ -67,7 +97,7 @@ pub enum State {
 }
 
 impl State {
-    fn of_face(bounds: Interval, below: i64, face: u8) -> State {
+    pub fn of_face(bounds: Interval, below: i64, face: u8) -> State {
         if bounds.high < below {
             In
         } else if bounds.low >= below {
@@ -77,7 +107,7 @@ impl State {
         }
     }
 
-    fn complement(self) -> State {
+    pub fn complement(self) -> State {
         match self {
             Out => In,
             In => Out,
@@ -87,7 +117,7 @@ impl State {
         }
     }
 
-    fn both(self, other: State) -> State {
+    pub fn both(self, other: State) -> State {
         match (self, other) {
             (Out, _) | (_, Out) => Out,
             (In, state) | (state, In) => state,
@@ -95,7 +125,7 @@ impl State {
         }
     }
 
-    fn either(self, other: State) -> State {
+    pub fn either(self, other: State) -> State {
         match (self, other) {
             (In, _) | (_, In) => In,
             (Out, state) | (state, Out) => state,
@@ -145,7 +175,7 @@ impl Cube {
         }
     }
 
-    fn along(&self, axis: usize) -> Interval {
+    pub fn along(&self, axis: usize) -> Interval {
         Interval::new(self.low[axis], self.low[axis] + self.side)
     }
 }

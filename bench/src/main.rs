@@ -1,28 +1,34 @@
 //! Times building and looking up by the proved library and by plain Rust programs, and measures its stack.
-//! usage: bench [build] [lookup] [stack], all three where none is named; bench rooms FILE..
+//! usage: bench [build] [lookup] [stack] [growth], the first three where none is named; bench rooms FILE..
 mod baseline;
+mod buildings;
+mod builds;
+mod carrying;
 mod clock;
 mod colour;
 mod drawing;
+mod growth;
 mod library;
 mod lookups;
 mod records;
 mod scan;
 mod sheets;
 mod stack;
+mod tape;
+#[cfg(test)]
+mod tests;
 mod turns;
 
 use baseline::Root;
 use sheets::Case;
 use std::hint::black_box;
-use turns::{each, interleaved, RUNS};
 
-const USAGE: &str = "usage: bench [build] [lookup] [stack], bench rooms FILE..";
+const USAGE: &str = "usage: bench [build] [lookup] [stack] [growth], bench rooms FILE..";
 
 fn main() {
     let words: Vec<String> = std::env::args().skip(1).collect();
     match words.split_first() {
-        None => [speed, lookups::speed, stack]
+        None => [builds::speed, lookups::speed, stack]
             .iter()
             .for_each(|part| part()),
         Some((word, paths)) if word == "rooms" => paths.iter().for_each(|path| room(path)),
@@ -33,7 +39,8 @@ fn main() {
 /// The measurement that a word names.
 fn named(word: &str) -> fn() {
     match word {
-        "build" => speed,
+        "build" => builds::speed,
+        "growth" => growth::tables,
         "lookup" => lookups::speed,
         "stack" => stack,
         _ => {
@@ -45,45 +52,6 @@ fn named(word: &str) -> fn() {
 
 fn leaves(map: &[u8]) -> usize {
     (map.len() - 19) / 3
-}
-
-fn speed() {
-    println!("building: nanoseconds of processor time per cube, median of {RUNS} runs (least)");
-    speed_of("corridors, without a product", &sheets::corridors());
-    speed_of("vaults, with products", &sheets::vaulted());
-}
-
-fn speed_of(what: &str, cases: &[Case]) {
-    println!("{what}");
-    println!("records   cubes  leaves            baseline             library  library / baseline");
-    for Case {
-        records,
-        sheet,
-        root,
-    } in cases
-    {
-        let map = baseline::build(sheet, root).expect("the sheet is good");
-        let mut out = vec![0; map.bytes.len()];
-        assert_eq!(library::build(sheet, root, &mut out), Ok(map.bytes.len()));
-        assert!(out == map.bytes, "the library's map differs");
-        let [plain, proved] = interleaved([
-            &mut || _ = black_box(baseline::build(black_box(sheet), root)),
-            &mut || _ = black_box(library::build(black_box(sheet), root, &mut out)),
-        ]);
-        let a_cube = |time| each(time, map.cubes);
-        let ratio = plain.ratios(&proved);
-        println!(
-            "{records:7} {:7} {:7} {:9.1} ({:8.1}) {:9.1} ({:8.1}) {:11.2} ({:5.2})",
-            map.cubes,
-            leaves(&map.bytes),
-            a_cube(plain.median),
-            a_cube(plain.least),
-            a_cube(proved.median),
-            a_cube(proved.least),
-            ratio[0],
-            ratio[1],
-        );
-    }
 }
 
 /// The stack of a build that is gray to depth 10, of an empty call, and of the baseline.

@@ -14,8 +14,8 @@ pub struct Case {
 const MOST_OF_A_PART: usize = 14;
 /// The records that a vault takes.
 const RECORDS_OF_A_VAULT: usize = 19;
-/// The fewest records that a roof can take; it can take any number from this on.
-const LEAST_OF_A_ROOF: usize = 13;
+/// The fewest records that cuts take; they can take any number from this on.
+pub const LEAST_CUT: usize = 13;
 
 const FLOOR: i32 = 80;
 const CEILING: i32 = 780;
@@ -88,18 +88,32 @@ fn vault(s: &mut Sheet, i: i32, solid: u8) -> u8 {
     s.either(solid, vault)
 }
 
+/// Slanting planes: where y + z is `low` and more, with a complement, and where it is `high` and more, each `apart` from the one before.
+pub struct Slants {
+    pub low: i32,
+    pub high: i32,
+    pub apart: i32,
+}
+
+/// Cuts the solid by a slanting roof, until there are exactly `records` records.
+fn roof(s: &mut Sheet, solid: u8, records: usize) -> u8 {
+    let (low, high, apart) = (410, 2300, 15);
+    cut(s, solid, records, &Slants { low, high, apart })
+}
+
 /// Cuts the solid by slanting planes, of four records or of five with a complement, until there are exactly `records` records.
-fn roof(s: &mut Sheet, mut solid: u8, records: usize) -> u8 {
+pub fn cut(s: &mut Sheet, mut solid: u8, records: usize, slants: &Slants) -> u8 {
     let (y, z) = (s.coordinate(1), s.coordinate(2));
     let slant = s.sum(y, z);
     let fives = (records - s.count()) % 4;
     let mut planes = 0;
     while s.count() < records {
+        let further = slants.apart * planes as i32;
         let plane = if planes < fives {
-            let low = s.at_most(slant, 410 + 15 * planes as i32);
+            let low = s.at_most(slant, slants.low + further);
             s.complement(low)
         } else {
-            s.at_most(slant, 2300 + 15 * planes as i32)
+            s.at_most(slant, slants.high + further)
         };
         solid = s.both(solid, plane);
         planes += 1;
@@ -108,7 +122,7 @@ fn roof(s: &mut Sheet, mut solid: u8, records: usize) -> u8 {
 }
 
 /// The case of a sheet with exactly `records` records.
-fn finished(s: Sheet, records: usize, root: Root) -> Case {
+pub fn finished(s: Sheet, records: usize, root: Root) -> Case {
     assert_eq!(s.count(), records);
     Case {
         records,
@@ -118,7 +132,7 @@ fn finished(s: Sheet, records: usize, root: Root) -> Case {
 }
 
 /// A root whose low corner is the origin.
-fn from_origin(k: u8, d: u8) -> Root {
+pub fn from_origin(k: u8, d: u8) -> Root {
     Root {
         corner: [0, 0, 0],
         k,
@@ -132,7 +146,7 @@ fn corridor(records: usize, k: u8, d: u8) -> Case {
     let mut solid = space(&mut s, 0);
     let parts: [fn(&mut Sheet, i32, u8) -> u8; 4] = [room, bay, dome, column];
     let mut next = 1;
-    while s.count() + MOST_OF_A_PART + LEAST_OF_A_ROOF <= records {
+    while s.count() + MOST_OF_A_PART + LEAST_CUT <= records {
         solid = parts[next % parts.len()](&mut s, (next / parts.len()) as i32, solid);
         next += 1;
     }
@@ -145,7 +159,7 @@ fn vaults(records: usize, k: u8, d: u8) -> Case {
     let mut s = Sheet::default();
     let mut solid = s.slab(2, -450, -430);
     let mut next = 0;
-    while s.count() + RECORDS_OF_A_VAULT + LEAST_OF_A_ROOF <= records {
+    while s.count() + RECORDS_OF_A_VAULT + LEAST_CUT <= records {
         solid = vault(&mut s, next, solid);
         next += 1;
     }

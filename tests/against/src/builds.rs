@@ -37,6 +37,11 @@ pub fn any(number: u64, random: &mut Random) -> Made {
         let most = most_leaves(random) * if number < QUICK { 1 } else { 5 };
         leaves = plan.choose_depth(random, most);
     }
+    of_plan(&plan, leaves, random)
+}
+
+/// The build of a plan whose map has so many leaves.
+pub fn of_plan(plan: &Plan, leaves: usize, random: &mut Random) -> Made {
     let buffer = buffer(length(leaves), random);
     lent(plan.label, plan.bytes(), &plan.root, buffer, random)
 }

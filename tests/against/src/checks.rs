@@ -1,6 +1,7 @@
 //! The checks of a run, each of which counts as one.
 
 use crate::before_03;
+use crate::carried_run;
 use crate::case::{Call, Case, CALLS};
 use crate::demand3_run;
 use crate::group::{report, Setup};
@@ -27,12 +28,13 @@ struct Run<'a> {
 
 type Check = fn(&mut Run) -> Result<(), String>;
 
-const CHECKS: [(&str, Check); 12] = [
+const CHECKS: [(&str, Check); 13] = [
     ("guard pages", guard_pages),
     ("comparison", comparison),
     ("codes reached", codes_reached),
     ("faces met", faces_met),
     ("versions met", versions_met),
+    ("carried down", carried_down),
     ("row 11", row_11),
     ("relations", relations),
     ("versions", both_versions),
@@ -145,6 +147,16 @@ fn versions_met(run: &mut Run) -> Result<(), String> {
     let all = calls.map(|call| run.covered.reached_all_versions(call));
     let what = "versions met: each call had sheets of versions 0, 1, 2, 3 and 255, and versions 1 and 2 bounds that end at 0, are 0 and begin at 0, and points on the face of their leaf";
     run.count(what, all == [true; 3] && run.covered.met_all_zeros());
+    Ok(())
+}
+
+/// A plain program that carries down builds as the paper says, and all that it can go wrong over occurs.
+fn carried_down(run: &mut Run) -> Result<(), String> {
+    let [.., group] = groups(run.sizes);
+    let found = carried_run::run(run.setup, &group)?;
+    found.print();
+    let (what, good) = found.line();
+    run.count(&what, good);
     Ok(())
 }
 

@@ -81,7 +81,7 @@ fn tree(drawing: &mut Drawing, faces: &[usize], depth: i64) -> usize {
 }
 
 /// Both or either of two records, in either order.
-fn joined(drawing: &mut Drawing, p: usize, q: usize) -> usize {
+pub fn joined(drawing: &mut Drawing, p: usize, q: usize) -> usize {
     drawing.maker.add(match drawing.random.below(4) {
         0 => Both(p, q),
         1 => Both(q, p),

@@ -91,7 +91,8 @@ fn gray_sphere(drawing: &mut Drawing) -> usize {
     drawing.maker.add(Both(face, again))
 }
 
-fn drawn(random: &mut Random, root: Root, label: &'static str, shape: Shape) -> Plan {
+/// A plan with a shape for its solid.
+pub fn drawn(random: &mut Random, root: Root, label: &'static str, shape: Shape) -> Plan {
     let share = !random.once_in(3);
     let version = plan::version(random);
     let mut drawing = Drawing {

@@ -2,7 +2,7 @@
 
 use crate::group::{Group, Make};
 use crate::lookups::{self, POINTS};
-use crate::{alone, builds, ends, every_byte, products};
+use crate::{alone, builds, carried, ends, every_byte, products};
 
 /// The number of random calls of each sort.
 pub struct Sizes {
@@ -15,6 +15,11 @@ pub struct Sizes {
 impl Sizes {
     /// The number of damaged sheets, and of damaged maps, besides those with a single byte changed.
     fn damaged(&self) -> u64 {
+        self.builds / 5
+    }
+
+    /// The number of builds over which carrying down can go wrong.
+    fn carried(&self) -> u64 {
         self.builds / 5
     }
 
@@ -40,7 +45,7 @@ impl Sizes {
 }
 
 /// The groups that are compared with the paper.
-pub fn groups(sizes: &Sizes) -> [Group; 8] {
+pub fn groups(sizes: &Sizes) -> [Group; 9] {
     let group = |name, make: Make, cases| Group { name, make, cases };
     let lookup_cases = sizes.lookups.div_ceil(POINTS as u64);
     let sheet_cases = every_byte::sheet_cases() + sizes.damaged();
@@ -54,5 +59,6 @@ pub fn groups(sizes: &Sizes) -> [Group; 8] {
         group("damaged maps", every_byte::maps, map_cases),
         group("products", products::any, products::cases()),
         group("ends", ends::any, ends::cases()),
+        group("carried", carried::any, sizes.carried()),
     ]
 }

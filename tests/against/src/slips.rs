@@ -9,7 +9,7 @@ use crate::wrong_lookups::*;
 use crate::wrong_mentions::*;
 use crate::wrong_reads::*;
 use crate::wrong_versions::*;
-use crate::{alone, builds, ends, every_byte, lookups, products};
+use crate::{alone, builds, carried, ends, every_byte, lookups, products, wrong_carried};
 use paper::before_03;
 
 /// A wrong rule: its description, the cases that show it, and the oracle that follows it.
@@ -19,7 +19,7 @@ pub struct Slip {
     pub oracle: Wrong,
 }
 
-type Wrong = fn(&Case) -> Outcome;
+pub type Wrong = fn(&Case) -> Outcome;
 
 const CASES: u64 = 6_000;
 
@@ -225,6 +225,8 @@ const OF_ENDS: [(&str, Wrong); 7] = [
     ("the last operand's end", end_of_last_operand),
 ];
 
+const CARRYING: [(&str, Make); 1] = [("carried", carried::any)];
+
 const GIVING_7: [(&str, Make); 2] = [
     ("building, 7", ends::build),
     ("looking up, 7", ends::lookup),
@@ -250,7 +252,8 @@ pub fn slips() -> impl Iterator<Item = Slip> {
     let all = all
         .chain(on_each(&BY_MEANING, &OF_MEANINGS))
         .chain(on_each(&BY_VERSION, &OF_VERSIONS))
-        .chain(on_each(&GIVING_7, &OF_ENDS));
+        .chain(on_each(&GIVING_7, &OF_ENDS))
+        .chain(on_each(&CARRYING, &wrong_carried::ALL));
     all.map(|(name, make, oracle)| Slip {
         name,
         group: Group {

@@ -1,5 +1,7 @@
 // Numbers of several bytes, as in sheets and maps: big-endian, and two's complement if signed.
 
+#![tactic(auto)]
+
 ghost use Rattle.std.specs.Prelude.{◌≡◌, ◌+◌, ◌≤◌, length};
 ghost use Rattle.std.proofs.lemmas.List.Edits.{sets};
 ghost use Rattle.bigendian.specs.Numbers.{unsigned_at, signed32, signed_at, bytes_of, unsigned32};

@@ -1,5 +1,7 @@
 // Colour of a cube: the bounds of all records over it, the states of the logical ones, and the class of the solid's state.
 
+#![tactic(auto)]
+
 mod entries;
 mod judging;
 mod states;
@@ -11,7 +13,7 @@ pub use states::{face_state, state_at};
 
 // What is known of a logical record over a cube: it holds nowhere in the cube; it holds all over it; it holds exactly where one face does; it holds exactly
 // where that face does not; or nothing is known. The variants are in the order of their classes, 0 to 4.
-#[derive(Drop)]
+#[derive(Clone, Copy)]
 pub enum State {
     Out,
     In,
@@ -21,7 +23,7 @@ pub enum State {
 }
 
 // The bounds of the first `count` records over a cube, held together. The rest of both arrays is zeros.
-#[derive(Drop)]
+#[derive(Clone, Copy)]
 pub struct Bounds {
     pub low: [i64; 256],
     pub high: [i64; 256],
@@ -29,7 +31,7 @@ pub struct Bounds {
 }
 
 // The state of a record over a cube, or the first record whose bounds pass the limit, with the end that does.
-#[derive(Drop)]
+#[derive(Clone, Copy)]
 pub enum Judged {
     Known(State),
     Past(Over),

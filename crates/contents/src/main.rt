@@ -1,6 +1,8 @@
 // Says what a zone sheet holds: reads a sheet from standard input and writes one line per record, such as `3 at 13: difference 0 2` for record 3
 // at byte 13 of the sheet, or `refused code number`.
 
+#![tactic(auto)]
+
 fn main() {
     // A sheet whose length agrees has at most 65,537 bytes. One byte more than that disagrees, however many follow.
     let mut input = [0u8; 65538];

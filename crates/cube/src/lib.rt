@@ -1,5 +1,7 @@
 // The root and its depth, the cubes it is split into, and its points.
 
+#![tactic(auto)]
+
 mod points;
 
 ghost use Rattle.std.specs.Prelude.{◌≡◌, true, ◌+◌, ◌/◌, ◌%◌, ◌<◌, ◌≤◌, ◌^◌, pos, nat_abs, ◌+ℤ◌};
@@ -7,7 +9,7 @@ ghost use Rattle.cube.specs.Limits.{axis_fits, sizes_fit, in_limits, at_depth, N
 ghost use Rattle.cube.specs.Cubes.{root_cube, half, child_of, corner_of, cube_at};
 
 // The root's low corner x, y, z, its side 2^k, and the depth d.
-#[derive(Drop)]
+#[derive(Clone, Copy)]
 pub struct Root {
     pub x: i32,
     pub y: i32,
@@ -17,7 +19,7 @@ pub struct Root {
 }
 
 // A cube by its low corner, its side and its level.
-#[derive(Drop)]
+#[derive(Clone, Copy)]
 pub struct Cube {
     pub x: i32,
     pub y: i32,
@@ -27,7 +29,7 @@ pub struct Cube {
 }
 
 // A whole point.
-#[derive(Drop)]
+#[derive(Clone, Copy)]
 pub struct Point {
     pub x: i32,
     pub y: i32,

@@ -1,5 +1,7 @@
 // Exact intervals of whole numbers, whose ends lie in -2^60 to 2^60.
 
+#![tactic(auto)]
+
 ghost use Rattle.std.specs.Prelude.{◌≡◌, true, false, ◌*◌, ◌≤◌, ◌^◌, leb, nat_abs, ◌*ℤ◌};
 ghost use Rattle.integers.specs.Least.{lesser_of, greater_of};
 ghost use Rattle.interval.specs.Rules.{sum, difference, product, square};
@@ -18,14 +20,14 @@ const LIMIT: u64 = GREATEST as u64;
 // The product of two numbers up to this magnitude, 2^30, is within the limit.
 const SHORT: i64 = 1073741824;
 
-#[derive(Drop)]
+#[derive(Clone, Copy)]
 pub struct Interval {
     pub low: i64,
     pub high: i64,
 }
 
 // An interval with both ends within the limit, or the end past it: the low one if it is, otherwise the high one.
-#[derive(Drop)]
+#[derive(Clone, Copy)]
 pub enum Bounded {
     Within(Interval),
     Past(End),

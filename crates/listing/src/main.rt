@@ -1,5 +1,7 @@
 // The listing program: reads a root's X, Y, Z, k and d and a zone sheet from standard input, builds the zone map, and writes it as text.
 
+#![tactic(auto)]
+
 ghost use Rattle.std.specs.Prelude.{◌≡◌, Bool, [], ℕ, ◌≤◌, length};
 ghost use Rattle.zonemap.specs.Opening.{root_of, fault_of};
 

@@ -1,5 +1,7 @@
 // Looking a position up in a zone map.
 
+#![tactic(auto)]
+
 mod looking;
 mod numbers;
 
@@ -7,7 +9,7 @@ pub use looking::lookup;
 use replies::Refusal;
 
 // Where a position lies.
-#[derive(Drop)]
+#[derive(Clone, Copy)]
 pub enum Answer {
     Outside,
     Inside,
@@ -15,7 +17,7 @@ pub enum Answer {
 }
 
 // Where the position lies, or why the call refuses.
-#[derive(Drop)]
+#[derive(Clone, Copy)]
 pub enum Reply {
     Done(Answer),
     Refused(Refusal),

@@ -1,6 +1,8 @@
 // Test lines of the calls that write a map, for programs over vectors: each is answered by code, number, the map, and whether all other bytes of the buffer
 // are unchanged.
 
+#![tactic(auto)]
+
 ghost use Rattle.io.specs.Counts.{IsPrefixLen};
 
 // The value of each byte of a buffer before it is lent.

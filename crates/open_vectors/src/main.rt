@@ -1,5 +1,7 @@
 // Runs `zone_open` over the vectors of standard input, and writes code and number.
 
+#![tactic(auto)]
+
 fn main() {
     let mut input = [0u8; 65536];
     let n = io::read_full(0, &mut input);

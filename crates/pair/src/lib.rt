@@ -1,5 +1,7 @@
 // A zone sheet with a zone map: replies 1 to 5 and 9, with which every call that takes both begins.
 
+#![tactic(auto)]
+
 mod opening;
 
 use cube::Root;
@@ -7,7 +9,7 @@ pub use opening::open;
 use replies::Refusal;
 
 // What is known of a good sheet and a map that opens with it: the number of records, the root, and the offset of the leaf that holds a point.
-#[derive(Drop)]
+#[derive(Clone, Copy)]
 pub struct Pair {
     pub count: usize,
     pub root: Root,
@@ -15,7 +17,7 @@ pub struct Pair {
 }
 
 // A pair, or the first refusal of the sheet and the map.
-#[derive(Drop)]
+#[derive(Clone, Copy)]
 pub enum Opened {
     Good(Pair),
     Refused(Refusal),

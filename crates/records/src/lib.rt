@@ -1,5 +1,7 @@
 // The records of a checked sheet: their offsets, and what they are, by kind alone. The sheet is read again, but not checked again.
 
+#![tactic(auto)]
+
 mod by_kind;
 mod marking;
 mod standing;

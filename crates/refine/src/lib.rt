@@ -1,5 +1,7 @@
 // Refining a finished map: a second map of a greater depth, in which each gray leaf is replaced.
 
+#![tactic(auto)]
+
 mod refining;
 
 pub use refining::refine;

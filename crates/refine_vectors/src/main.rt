@@ -1,5 +1,7 @@
 // Runs `zone_refine` over the vectors of standard input.
 
+#![tactic(auto)]
+
 ghost use Rattle.std.specs.Prelude.{◌≤◌};
 
 fn main() {

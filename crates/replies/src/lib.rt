@@ -1,24 +1,26 @@
 // Document 01's table of replies: why a call refuses, with the code and the number of each refusal.
 
+#![tactic(auto)]
+
 ghost use Rattle.std.specs.Prelude.{◌≡◌};
 ghost use Rattle.replies.specs.Table.{code_of, over_number, number_of};
 
 // An end of a record's bounds.
-#[derive(Drop)]
+#[derive(Clone, Copy)]
 pub enum End {
     Low,
     High,
 }
 
 // A record whose bounds pass the limit, and the end that does.
-#[derive(Drop)]
+#[derive(Clone, Copy)]
 pub struct Over {
     pub index: u8,
     pub end: End,
 }
 
 // Why a call refuses, in the order of test. Code 11 was dropped, and no refusal may take it.
-#[derive(Drop)]
+#[derive(Clone, Copy)]
 pub enum Refusal {
     Length,
     Version,
@@ -33,7 +35,7 @@ pub enum Refusal {
 }
 
 // What a call returns: a number, such as that of records, leaves or bytes, or why it refuses.
-#[derive(Drop)]
+#[derive(Clone, Copy)]
 pub enum Reply {
     Done(usize),
     Refused(Refusal),

@@ -1,5 +1,7 @@
 // The zone sheet: reads its records one by one from any bytes, and tests the whole sheet in the order of replies 1 to 5.
 
+#![tactic(auto)]
+
 mod checking;
 mod operands;
 mod reading;
@@ -8,7 +10,7 @@ mod table;
 pub use checking::check;
 
 // How a face compares its operand with 0: at most 0 in a version 1 sheet; less than 0 in a version 2 sheet, so that a face excludes its own points.
-#[derive(Drop)]
+#[derive(Clone, Copy)]
 pub enum Comparison {
     AtMost,
     LessThan,
@@ -16,7 +18,7 @@ pub enum Comparison {
 
 // A record: its kind and what follows the kind. An operand is the number of an earlier record. A face also has the comparison of its sheet's version, so that
 // whatever goes by records needs no version.
-#[derive(Drop)]
+#[derive(Clone, Copy)]
 pub enum Record {
     Constant(i32),
     X,
@@ -33,28 +35,28 @@ pub enum Record {
 }
 
 // The record of a row of the table of kinds, or Unknown if no row matches.
-#[derive(Drop)]
+#[derive(Clone, Copy)]
 pub enum Row {
     Known(Record),
     Unknown,
 }
 
 // Where the next record starts, and how many records may still follow.
-#[derive(Drop)]
+#[derive(Clone, Copy)]
 pub struct Cursor {
     pub at: usize,
     pub left: usize,
 }
 
 // What is read at a cursor: a record and the cursor past it, or a refusal with its byte offset.
-#[derive(Drop)]
+#[derive(Clone, Copy)]
 pub enum Read {
     Found(Record, Cursor),
     Refused(usize),
 }
 
 // The sort of a record: kinds 1 to 8 are arithmetic, 16 to 19 logical. A missing record is neither.
-#[derive(Drop)]
+#[derive(Clone, Copy)]
 pub enum Sort {
     Neither,
     Arithmetic,

@@ -2,6 +2,8 @@
 // stay decided inside it, so the tape for its children is shorter.
 // A word is 32 bits: the number of a record, its two operands and its kind, from the low byte to the high one.
 
+#![tactic(auto)]
+
 mod listing;
 mod shortening;
 mod working;
@@ -11,7 +13,7 @@ pub use shortening::carry;
 pub use working::work_out;
 
 // The words from..mid are of arithmetic records, mid..to of logical ones. The solid's state is that of record `solid`.
-#[derive(Drop)]
+#[derive(Clone, Copy)]
 pub struct Tape {
     pub from: usize,
     pub mid: usize,

@@ -1,5 +1,7 @@
 // Numbers as text, built in a buffer: decimal, in ASCII. Nothing here does input or output.
 
+#![tactic(auto)]
+
 ghost use Rattle.std.specs.Prelude.{[], ◌∷◌, ◌++◌, ◌+◌, ◌≤◌, length};
 ghost use Rattle.io.specs.Counts.{IsPrefixLen};
 ghost use Rattle.text.specs.Text.{decimal_of, signed_text, line_of, Puts};

@@ -1,11 +1,13 @@
 // Test lines: a label, a colon, the bytes of a vector in hexadecimal, with spaces for legibility, and a line feed.
 // A heading has no colon, so it is printed as part of the label that follows it.
 
+#![tactic(auto)]
+
 ghost use Rattle.std.specs.Prelude.{◌≤◌, ◌<◌, length};
 ghost use Rattle.io.specs.Counts.{IsPrefixLen};
 
 // Of a line that was read: where the next line begins, and the number of bytes in its vector.
-#[derive(Drop)]
+#[derive(Clone, Copy)]
 pub struct Line {
     pub next: usize,
     pub size: usize,

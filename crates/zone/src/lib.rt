@@ -1,5 +1,7 @@
 // The library's interface for C and Rust: each call has the contract of its inner call, with the reply as a code and a number.
 
+#![tactic(auto)]
+
 ghost use Rattle.std.specs.Prelude.{◌≡◌};
 ghost use Rattle.zone.specs.Replies.{by_number, zone_check_of, zone_outcome, zone_build_of, zone_refine_of, zone_open_of, zone_lookup_of};
 
@@ -7,7 +9,7 @@ use replies::Reply;
 
 // A reply by document 01's code and number.
 #[repr(C)]
-#[derive(Drop)]
+#[derive(Clone, Copy)]
 pub struct ZoneReply {
     pub code: u32,
     pub number: u64,

@@ -1,5 +1,7 @@
 // The zone map: its leaves and its bytes, written and read.
 
+#![tactic(auto)]
+
 mod opening;
 mod walking;
 
@@ -12,7 +14,7 @@ pub use opening::{find, leaf_at, open};
 pub use walking::{leaf_count, meet};
 
 // A leaf: its level, its class and its face number.
-#[derive(Drop)]
+#[derive(Clone, Copy)]
 pub struct Leaf {
     pub level: u8,
     pub class: u8,
@@ -20,28 +22,28 @@ pub struct Leaf {
 }
 
 // The root, read from the bytes before the leaves, or the offset of the first fault in them.
-#[derive(Drop)]
+#[derive(Clone, Copy)]
 pub enum Header {
     Good(Root),
     Bad(usize),
 }
 
 // The offset of the leaf that holds a place, or of the first fault in the leaves.
-#[derive(Drop)]
+#[derive(Clone, Copy)]
 pub enum Scanned {
     At(usize),
     Bad(usize),
 }
 
 // The root of a map that opens, with the offset of the leaf that holds a point, or the offset of the map's first fault.
-#[derive(Drop)]
+#[derive(Clone, Copy)]
 pub enum Found {
     At(Root, usize),
     Bad(usize),
 }
 
 // A leaf of a map that opens, the cube at its place, and the place after it.
-#[derive(Drop)]
+#[derive(Clone, Copy)]
 pub struct Met {
     pub leaf: Leaf,
     pub cube: Cube,

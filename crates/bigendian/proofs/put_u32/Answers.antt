@@ -1,0 +1,18 @@
+-- `bigendian::put_u32` meets its contract.
+use native.Mathlib.Omega.{arith}
+use lib.ListN.{length-set}
+use Rattle.bigendian.proofs.Written.{four-stored}
+use borrow.Author.Rules.{rules}
+use Rattle.bigendian.proofs.put_u32.Goals as goal
+
+pub bounds-out-at-2 : goal.bounds-out-at-2
+bounds-out-at-2 c = simp length-set (omega arith)
+
+pub bounds-out-at-3 : goal.bounds-out-at-3
+bounds-out-at-3 c = simp length-set (omega arith)
+
+pub bounds-out-at-4 : goal.bounds-out-at-4
+bounds-out-at-4 c = simp length-set (omega arith)
+
+pub returns : goal.returns
+returns c = four-stored _ _ _ c.ranges.n.fits

@@ -1,0 +1,13 @@
+-- `colour::judging::judge` meets its contract. The invariant is `Filling`: the first n records are done, and the arrays hold what is known of them.
+use borrow.Author.Rules.{rules, scaled_Fits, Fits-under}
+use Prim.Native.Nat.{◌-◌}
+use native.Mathlib.Omega.{arith}
+use Rattle.records.proofs.Walking.{walking-few, walking-fits, walking-listed, walking-stands}
+use Rattle.colour.proofs.Filling.{Filling, filling-start, held, judged-end, judged-past, filling-next}
+use Rattle.colour.proofs.judging.judge.Given as goal
+
+abbrev pub invariant-loop-b : goal.invariant-loop-b
+invariant-loop-b l = Filling l.s l.offsets l.count l.q l.b.low l.b.high l.b.count l.classes l.faces
+
+abbrev pub decreases-loop-b : goal.decreases-loop-b
+decreases-loop-b l = l.count - l.b.count

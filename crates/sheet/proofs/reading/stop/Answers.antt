@@ -1,0 +1,17 @@
+-- `sheet::reading::stop` meets its contract. The invariant: the cursor has 256 - left records before it. The measure is `left`.
+use Prim.Native.Nat.{◌-◌}
+use borrow.Author.Rules.{rules}
+use Rattle.sheet.proofs.Walk.{At, at_first, at_after, fewer-left, stop_is}
+use Rattle.sheet.proofs.reading.stop.Goals as goal
+
+pub loop-next-init : goal.loop-next-init
+loop-next-init c = search (rules, at_first)
+
+pub returns-in_default : goal.returns-in_default
+returns-in_default c = search (rules, stop_is)
+
+pub loop-next-smaller : goal.loop-next-smaller
+loop-next-smaller c = search (rules, fewer-left)
+
+pub loop-next-preserved : goal.loop-next-preserved
+loop-next-preserved c = search (rules, at_after)

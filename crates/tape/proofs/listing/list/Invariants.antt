@@ -1,0 +1,13 @@
+-- `tape::listing::list` meets its contract. The invariant is `Putting`: the words of the first n records are done.
+use borrow.Author.Rules.{rules, scaled_Fits, Fits-under}
+use Prim.Native.Nat.{◌-◌}
+use native.Mathlib.Omega.{arith}
+use Rattle.records.proofs.Walking.{walking-few, walking-fits, walking-listed, walking-stands}
+use Rattle.tape.proofs.Putting.{Putting, putting-start, putting-end, putting-room, putting-next}
+use Rattle.tape.proofs.listing.list.Given as goal
+
+abbrev pub invariant-loop-n : goal.invariant-loop-n
+invariant-loop-n l = Putting l.s l.offsets l.count l.initial.tape l.from l.logical l.tape l.to l.n
+
+abbrev pub decreases-loop-n : goal.decreases-loop-n
+decreases-loop-n l = l.count - l.n

@@ -1,0 +1,13 @@
+-- `tape::listing::place` meets its contract. The invariant is `Placing`: the entries of the first n records are in place.
+use borrow.Author.Rules.{rules, scaled_Fits}
+use Prim.Native.Nat.{◌-◌}
+use native.Mathlib.Omega.{arith}
+use Rattle.records.proofs.Walking.{walking-few, walking-fits, walking-listed, walking-stands}
+use Rattle.tape.proofs.Placing.{Placing, placing-start, placing-end, placing-low, placing-high, placing-class, placing-next}
+use Rattle.tape.proofs.listing.place.Given as goal
+
+abbrev pub invariant-loop-n : goal.invariant-loop-n
+invariant-loop-n l = Placing l.s l.offsets l.count l.low l.high l.classes l.n
+
+abbrev pub decreases-loop-n : goal.decreases-loop-n
+decreases-loop-n l = l.count - l.n

@@ -1,0 +1,12 @@
+-- `tape::shortening::own_twins` meets its contract.
+use borrow.Author.Rules.{rules}
+use Prim.Native.Nat.{◌-◌}
+use native.Mathlib.Omega.{arith}
+use Rattle.tape.proofs.Owning.{Owning, owning-start, owning-next, owning-end}
+use Rattle.tape.proofs.shortening.own_twins.Given as goal
+
+abbrev pub invariant-loop-i : goal.invariant-loop-i
+invariant-loop-i l = Owning l.found l.i
+
+abbrev pub decreases-loop-i : goal.decreases-loop-i
+decreases-loop-i l = 256 - l.i

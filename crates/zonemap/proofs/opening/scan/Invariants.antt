@@ -1,0 +1,14 @@
+-- `zonemap::opening::scan` meets its contract: the remaining leaves determine what the whole list does.
+use borrow.Author.Rules.{rules}
+use Prim.Native.Nat.{◌-◌}
+use native.Mathlib.Omega.{arith}
+use lib.Dec.{eqb}
+use lib.ListN.{length, get_or}
+use Rattle.zonemap.proofs.Scan.{Scan, scan-start, scan-less, scan-below, scan-fits, scan-bad, scan-on, scan_good, scan-short}
+use Rattle.zonemap.proofs.opening.scan.Given as goal
+
+abbrev pub invariant-loop-at : goal.invariant-loop-at
+invariant-loop-at l = Scan (λ f. eqb (get_or l.faces f 0) 1) l.map l.d l.m l.place l.at l.found
+
+abbrev pub decreases-loop-at : goal.decreases-loop-at
+decreases-loop-at l = length l.map - l.at

@@ -3,10 +3,6 @@ use borrow.Author.Rules.{rules}
 use Rattle.interval.proofs.Products.{product-zero, product-quotient}
 use Rattle.interval.proofs.is_small_product.Goals as goal
 
--- PORT: no such goal now: nonzero-div-result
-div-result : tie.Need-nonzero-div-result
-div-result c = search rules
-
 pub returns-then-n-eq0 : goal.returns-then-n-eq0
 returns-then-n-eq0 c = search (rules, product-zero)
 

@@ -23,4 +23,4 @@ returns-in-3 c = rw c.in-3.is
 pub returns-in_default : goal.returns-in_default
 unfolding state_by
 returns-in_default c =
-    rw (ne_eqb _ _ c.in_default.rest.0.0.0.1, ne_eqb _ _ c.in_default.rest.0.0.1, ne_eqb _ _ c.in_default.rest.0.1, ne_eqb _ _ c.in_default.rest.1)
+    rw (ne_eqb _ _ c.in_default.not-0, ne_eqb _ _ c.in_default.not-1, ne_eqb _ _ c.in_default.not-2, ne_eqb _ _ c.in_default.not-3)

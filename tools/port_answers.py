@@ -167,7 +167,7 @@ def turn(folder, module, listed, crate):
             else:
                 t = ""
             parts = parts_of(body)
-            asked = names.asked.get(new)
+            asked = names.asked.get(names.needs[i][0])
             stem = names.stem
             if len(parts) > 1 and asked and not unfolding:
                 if t and len(parts) == len(asked) + 1:

@@ -6,8 +6,8 @@ use Rattle.tree.proofs.Walking.{flat-unless, written-flat, split-written}
 use borrow.Author.Rules.{rules}
 use Rattle.tree.proofs.leaves.write.Goals as goal
 
-pub work_out-decided-requires : goal.work_out-decided-requires
-work_out-decided-requires c = (search rules, (search rules, (search (rules, near-judged), search rules)))
+pub work_out-decided-requires-clause-fact_3 : goal.work_out-decided-requires-clause-fact_3
+work_out-decided-requires-clause-fact_3 c = search (rules, near-judged)
 
 pub put-requires : goal.put-requires
 put-requires c =

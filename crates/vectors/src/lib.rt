@@ -26,8 +26,8 @@ pub fn read_line(rt: &impl Print, input: &[u8], at: usize, vector: &mut [u8]) ->
 
 // The first position from `from` on that follows a byte `mark`; the end of the input if there is none.
 fn past(input: &[u8], from: usize, mark: u8) -> usize
-    requires fact_1 { 0 < from }
-    requires fact_2 { from ≤ length input.now }
+    requires low { 0 < from }
+    requires high { from ≤ length input.now }
     ensures lower_bound { from ≤ result }
     ensures upper_bound { result ≤ length input.now }
 {

@@ -167,7 +167,7 @@ def turn(folder, module, listed, crate):
             else:
                 t = ""
             parts = parts_of(body)
-            asked = names.asked.get(new)
+            asked = names.asked.get(names.needs[i][0])
             stem = names.stem
             if len(parts) > 1 and asked and not unfolding:
                 if t and len(parts) == len(asked) + 1:
@@ -206,7 +206,7 @@ def turn(folder, module, listed, crate):
             table = dict(zip(params, to))
             body = re.sub(r"(?<![\w'₀.-])(" + NAME + r")", lambda m: m[0], body)
             body = re.sub(r"(?<![\w'.₀-])([^\W\d][\w'₀-]*)", lambda m: table.get(m[1], m[1]), body)
-            n = f"{names.stem}{m[3]}-{new}"
+            n = f"{m[3]}-{names.stem}{new}"
             invariants.append(f"{mark}abbrev pub {n} : goal.{n}\n{n} l ={body if body.startswith(chr(10)) else ' ' + body.strip()}")
             continue
         m = re.match(r"abbrev (?:pub )?μ-(" + NAME + r") : Measures", b)

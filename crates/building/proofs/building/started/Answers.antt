@@ -3,5 +3,5 @@ use Rattle.building.proofs.Outcomes.{zero-places}
 use borrow.Author.Rules.{rules}
 use Rattle.building.proofs.building.started.Goals as goal
 
-pub start-t-requires : goal.start-t-requires
-start-t-requires c = (search rules, (search rules, (search rules, zero-places)))
+pub start-t-requires-clause-fact_4 : goal.start-t-requires-clause-fact_4
+start-t-requires-clause-fact_4 c = zero-places

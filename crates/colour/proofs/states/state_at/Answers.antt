@@ -1,4 +1,6 @@
 -- `colour::states::state_at` meets its contract: a class has one state.
+use native.Mathlib.Omega.{arith}
+use lib.ListN.{get_or}
 use borrow.Author.Tests.{ne_eqb}
 use Rattle.colour.specs.Held.{state_by}
 use borrow.Author.Rules.{rules}
@@ -23,4 +25,5 @@ returns-in-3 c = rw c.in-3.is
 pub returns-in_default : goal.returns-in_default
 unfolding state_by
 returns-in_default c =
-    rw (ne_eqb _ _ c.in_default.rest.0.0.0.1, ne_eqb _ _ c.in_default.rest.0.0.1, ne_eqb _ _ c.in_default.rest.0.1, ne_eqb _ _ c.in_default.rest.1)
+    let class = get_or c.args.classes.now c.args.a 0 in
+    rw (ne_eqb class 0 (λ e. omega arith), ne_eqb class 1 (λ e. omega arith), ne_eqb class 2 (λ e. omega arith), ne_eqb class 3 (λ e. omega arith))

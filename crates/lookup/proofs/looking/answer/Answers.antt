@@ -1,4 +1,5 @@
 -- `lookup::looking::answer` meets its contract, class by class.
+use native.Mathlib.Omega.{arith}
 use borrow.Author.Tests.{ne_eqb}
 use Rattle.lookup.specs.Lookup.{answer_of}
 use Rattle.lookup.proofs.Steps.{terminal, turned}
@@ -22,4 +23,5 @@ returns-in-3 c = turned _ _ _ c.in-3.is _ _ c.face_holds-in-3.ensures c.side-in-
 pub returns-in_default : goal.returns-in_default
 unfolding answer_of
 returns-in_default c =
-    rw (ne_eqb _ _ c.in_default.rest.0.0.0.1, ne_eqb _ _ c.in_default.rest.0.0.1, ne_eqb _ _ c.in_default.rest.0.1, ne_eqb _ _ c.in_default.rest.1)
+    let class = c.args.leaf.class in
+    rw (ne_eqb class 0 (λ e. omega arith), ne_eqb class 1 (λ e. omega arith), ne_eqb class 2 (λ e. omega arith), ne_eqb class 3 (λ e. omega arith))

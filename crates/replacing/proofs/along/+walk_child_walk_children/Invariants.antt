@@ -12,18 +12,16 @@ use Rattle.replacing.proofs.Stepping.{Walked, leaf-three, leaf-offset, leaf-next
 use Prim.Native.Nat.{ℕ, ◌<◌}
 use Rattle.replacing.proofs.along.+walk_child_walk_children.Given as goal
 
--- PORT: measure
-abbrev μ-walk-child : Measures 8 walk-child-kinds.ps ℕ
-μ-walk-child κs a = 2 * a.1.1.1.1.1.1.1.1.1.1.0 + 1
+abbrev pub decreases-walk_child : goal.decreases-walk_child
+decreases-walk_child l = 2 * l.left + 1
 
--- PORT: measure
-abbrev μ-walk-children : Measures 8 walk-children-kinds.ps ℕ
-μ-walk-children κs a = 2 * a.1.1.1.1.1.1.1.1.1.1.0
+abbrev pub decreases-walk_children : goal.decreases-walk_children
+decreases-walk_children l = 2 * l.left
 
-abbrev pub walk_children-invariant-loop-k : goal.walk_children-invariant-loop-k
-walk_children-invariant-loop-k l =
+abbrev pub invariant-walk_children-loop-k : goal.invariant-walk_children-loop-k
+invariant-walk_children-loop-k l =
     Walked (solid_state (records_of l.s)) (l.q.level + l.left) l.map l.q l.initial.on l.on l.k l.writing l.initial.out l.out × Left (records_of l.s) l.u l.initial.tape l.tape l.low l.high l.classes l.faces
 
-abbrev pub walk_children-decreases-loop-k : goal.walk_children-decreases-loop-k
-walk_children-decreases-loop-k l =
+abbrev pub decreases-walk_children-loop-k : goal.decreases-walk_children-loop-k
+decreases-walk_children-loop-k l =
     8 - l.k

@@ -12,9 +12,14 @@ overflow_add-next c = leaf-offset _ _ _ _ _ _ _ c.requires.fact_2 c.requires.fac
 pub leaf_at-leaf-requires : goal.leaf_at-leaf-requires
 leaf_at-leaf-requires c = leaf_room _ _ _ _ _ _ _ c.requires.fact_2 c.requires.fact_1.near
 
-pub replace-to-requires : goal.replace-to-requires
-replace-to-requires c =
-    (c.requires.fact_1, (to-few _ _ _ _ _ _ _ c.requires.fact_2 c.requires.fact_1.near, replace-room _ _ _ _ _ _ _ c.requires.fact_2 c.requires.fact_1.near _ c.leaf_at-leaf.ensures c.if-leaf-q.true))
+pub replace-to-requires-clause-fact_1 : goal.replace-to-requires-clause-fact_1
+replace-to-requires-clause-fact_1 c = c.requires.fact_1
+
+pub replace-to-requires-clause-fact_2 : goal.replace-to-requires-clause-fact_2
+replace-to-requires-clause-fact_2 c = to-few _ _ _ _ _ _ _ c.requires.fact_2 c.requires.fact_1.near
+
+pub replace-to-requires-clause-fact_3 : goal.replace-to-requires-clause-fact_3
+replace-to-requires-clause-fact_3 c = replace-room _ _ _ _ _ _ _ c.requires.fact_2 c.requires.fact_1.near _ c.leaf_at-leaf.ensures c.if-leaf-q.true
 
 pub overflow_add-result : goal.overflow_add-result
 overflow_add-result c = leaf-next _ _ _ _ _ _ _ c.requires.fact_2 c.requires.fact_1.near

@@ -20,6 +20,4 @@ overflow_cast-solid c = Fits-under _ _ 256 (search (rules, start-few)) tt
 
 pub returns : goal.returns
 returns c =
-    let start = c.before.before.before.before.before.before.before.before.before.before.before.before.before.before.before.before.before.before.before.before.before {- PORT: path -} in
-    start-lent _ _ start.requires.1.0 _ start.requires.1.1.0 _ _ c.list-mid.ensures _ _ c.list-to.ensures
-    _ _ _ _ c.place.ensures start.requires.1.1.1.faces-long
+    start-lent _ _ c.requires.fact_2 _ c.requires.fact_3 _ _ c.list-mid.ensures _ _ c.list-to.ensures _ _ _ _ c.place.ensures c.requires.fact_4.faces-long

@@ -15,8 +15,11 @@ bounds-tape-i c = omega (arith, c.loop-i-test.true, c.requires.fact_1.among, c.l
 pub renamed-r-requires : goal.renamed-r-requires
 renamed-r-requires c = c.loop-i.invariant.long
 
-pub twin-t-requires : goal.twin-t-requires
-twin-t-requires c = (c.requires.fact_2, c.loop-i.invariant.long)
+pub twin-t-requires-clause-fact_1 : goal.twin-t-requires-clause-fact_1
+twin-t-requires-clause-fact_1 c = c.requires.fact_2
+
+pub twin-t-requires-clause-fact_2 : goal.twin-t-requires-clause-fact_2
+twin-t-requires-clause-fact_2 c = c.loop-i.invariant.long
 
 pub overflow_sub-tape : goal.overflow_sub-tape
 overflow_sub-tape c = omega (arith, c.requires.fact_1.room, c.loop-i.invariant.least)

@@ -8,8 +8,8 @@ use Rattle.tape.proofs.working.fill_states.Goals as goal
 pub loop-i-init : goal.loop-i-init
 loop-i-init c = (search (rules, stating-start), omega arith)
 
-pub state_by-state-requires : goal.state_by-state-requires
-state_by-state-requires c = (search (rules, stating-sort), search rules)
+pub state_by-state-requires-clause-fact_1 : goal.state_by-state-requires-clause-fact_1
+state_by-state-requires-clause-fact_1 c = search (rules, stating-sort)
 
 pub loop-i-preserved : goal.loop-i-preserved
 loop-i-preserved c = (search (rules, stating-next), search rules)

@@ -11,18 +11,18 @@ use Rattle.tree.proofs.Walking.{eight, left-as-is, counted-flat, split-counted, 
 use Prim.Native.Nat.{ℕ, ◌+◌, ◌-◌, ◌*◌, ◌<◌}
 use Rattle.tree.proofs.leaves.+count_child_count_children.Goals as goal
 
-pub count_child-work_out-decided-requires : goal.count_child-work_out-decided-requires
-count_child-work_out-decided-requires t c = (search rules, (search rules, (search (rules, near-judged), search rules)))
+pub count_child-work_out-decided-requires-clause-fact_3 : goal.count_child-work_out-decided-requires-clause-fact_3
+count_child-work_out-decided-requires-clause-fact_3 t c = search (rules, near-judged)
 
 pub count_child-returns-then-class-ne4 : goal.count_child-returns-then-class-ne4
 count_child-returns-then-class-ne4 t c =
-    counted-flat _ _ _ _ _ _ _ _ _ c.requires.1.0 _ _ _ _ c.work_out-decided.ensures _ c.state_at-state.ensures _ c.class.ensures c.if-class-ne4.true
+    counted-flat _ _ _ _ _ _ _ _ _ c.requires.0 _ _ _ _ c.work_out-decided.ensures _ c.state_at-state.ensures _ c.class.ensures c.if-class-ne4.true
 
 pub count_child-count_children-requires : goal.count_child-count_children-requires
 count_child-count_children-requires t c =
     let start = c.requires in
-    let split = split-counted _ _ _ _ _ _ _ _ _ start.1.0 _ _ _ _ c.work_out-decided.ensures _ c.state_at-state.ensures _ c.class.ensures (λ z. omega (arith, z, start.1.1)) c.if-class-ne4.false in
-    (omega (arith, start.0), (split.0, (split.1, split.2)))
+    let split = split-counted _ _ _ _ _ _ _ _ _ start.0 _ _ _ _ c.work_out-decided.ensures _ c.state_at-state.ensures _ c.class.ensures (λ z. omega (arith, z, start.1)) c.if-class-ne4.false in
+    (omega (arith, c.decreases), (split.0, (split.1, split.2)))
 
 pub count_child-returns : goal.count_child-returns
 count_child-returns t c = c.count_children.ensures
@@ -37,17 +37,17 @@ pub count_children-child-child-requires : goal.count_children-child-child-requir
 count_children-child-child-requires t c = search (rules, near-split)
 
 pub count_children-overflow_sub-left : goal.count_children-overflow_sub-left
-count_children-overflow_sub-left t c = omega (arith, c.requires.1.1.0.deep)
+count_children-overflow_sub-left t c = omega (arith, c.requires.1.0.deep)
 
 pub count_children-count_child-total-requires : goal.count_children-count_child-total-requires
 count_children-count_child-total-requires t c =
     let start = c.requires in
-    let deep = start.1.1.0.deep in
-    (omega (arith, start.0, deep), (ready-child _ _ _ _ _ _ _ _ _ start.1.0 _ _ c.carry-u.ensures _ _ _ _ _ c.loop-k.invariant.1 deep _ c.loop-k-test.true _ c.child-child.ensures, omega (arith, deep, c.if-left-eq1.false)))
+    let deep = start.1.0.deep in
+    (omega (arith, c.decreases, deep), (ready-child _ _ _ _ _ _ _ _ _ start.0 _ _ c.carry-u.ensures _ _ _ _ _ c.loop-k.invariant.1 deep _ c.loop-k-test.true _ c.child-child.ensures, omega (arith, deep, c.if-left-eq1.false)))
 
 pub count_children-overflow_add-total : goal.count_children-overflow_add-total
 count_children-overflow_add-total t c =
-    total-fits _ _ _ _ _ _ _ _ _ _ _ c.count_child-total.ensures _ _ _ c.loop-k.invariant.0 c.loop-k-test.true c.child-child.ensures c.requires.1.0.near
+    total-fits _ _ _ _ _ _ _ _ _ _ _ c.count_child-total.ensures _ _ _ c.loop-k.invariant.0 c.loop-k-test.true c.child-child.ensures c.requires.0.near
 
 pub count_children-loop-k-preserved : goal.count_children-loop-k-preserved
 count_children-loop-k-preserved t c =
@@ -56,4 +56,4 @@ count_children-loop-k-preserved t c =
 pub count_children-returns : goal.count_children-returns
 count_children-returns t c =
     let inv = c.loop-k.invariant in
-    (counted-all _ _ _ _ _ inv.0 (omega (arith, c.loop-k-test.false)), left_below _ _ _ _ _ _ _ _ _ c.requires.1.0 _ _ c.carry-u.ensures _ _ _ _ _ inv.1)
+    (counted-all _ _ _ _ _ inv.0 (omega (arith, c.loop-k-test.false)), left_below _ _ _ _ _ _ _ _ _ c.requires.0 _ _ c.carry-u.ensures _ _ _ _ _ inv.1)

@@ -11,18 +11,16 @@ use Rattle.tree.proofs.Walking.{eight, left-as-is, counted-flat, split-counted, 
 use Prim.Native.Nat.{ℕ, ◌+◌, ◌-◌, ◌*◌, ◌<◌}
 use Rattle.tree.proofs.leaves.+count_child_count_children.Given as goal
 
--- PORT: measure
-abbrev μ-count-child : Measures 6 count-child-kinds.ps ℕ
-μ-count-child κs a = 2 * a.1.1.1.1.1.1.1.1.0 + 1
+abbrev pub decreases-count_child : goal.decreases-count_child
+decreases-count_child l = 2 * l.left + 1
 
--- PORT: measure
-abbrev μ-count-children : Measures 6 count-children-kinds.ps ℕ
-μ-count-children κs a = 2 * a.1.1.1.1.1.1.1.1.0
+abbrev pub decreases-count_children : goal.decreases-count_children
+decreases-count_children l = 2 * l.left
 
-abbrev pub count_children-invariant-loop-k : goal.count_children-invariant-loop-k
-count_children-invariant-loop-k l =
+abbrev pub invariant-count_children-loop-k : goal.invariant-count_children-loop-k
+invariant-count_children-loop-k l =
     Counting (solid_state (records_of l.s)) l.left l.q l.total l.k × Left (records_of l.s) l.u l.initial.tape l.tape l.low l.high l.classes l.faces
 
-abbrev pub count_children-decreases-loop-k : goal.count_children-decreases-loop-k
-count_children-decreases-loop-k l =
+abbrev pub decreases-count_children-loop-k : goal.decreases-count_children-loop-k
+decreases-count_children-loop-k l =
     8 - l.k

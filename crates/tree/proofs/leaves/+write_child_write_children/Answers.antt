@@ -1,6 +1,9 @@
 -- `tree::leaves::write_child` and `write_children` call each other. The measure is twice the levels left, and one more for a child, which may not be split; the
 -- invariant is `Writing`, k children were written, with what the walk leaves.
 use borrow.Author.Rules.{rules}
+use borrow.Author.Tests.{ne_eqb, eq-eqb}
+use mathlib.Core.Path.{ap}
+use mathlib.Core.Bool.{not}
 use native.Mathlib.Omega.{arith}
 use mathlib.Core.Logic.{⊎_elim}
 use Rattle.sheet.specs.Records.{records_of}
@@ -12,23 +15,23 @@ use Rattle.tree.proofs.Walking.{left-as-is, flat-unless, written-flat, split-wri
 use Prim.Native.Nat.{ℕ, ◌+◌, ◌-◌, ◌*◌, ◌<◌}
 use Rattle.tree.proofs.leaves.+write_child_write_children.Goals as goal
 
-pub write_child-work_out-decided-requires : goal.write_child-work_out-decided-requires
-write_child-work_out-decided-requires t c = (search rules, (search rules, (search (rules, near-judged), search rules)))
+pub write_child-work_out-decided-requires-clause-fact_3 : goal.write_child-work_out-decided-requires-clause-fact_3
+write_child-work_out-decided-requires-clause-fact_3 t c = search (rules, near-judged)
 
 pub write_child-put-requires : goal.write_child-put-requires
 write_child-put-requires t c =
-    ⊎_elim (λ a. leaf_room _ _ _ (leaves-end _ _ _ a.taken) _ _ c.requires.1.1) (λ a. leaf_room _ _ _ (flat-unless _ _ _ _ _ _ _ _ _ c.requires.1.0 _ _ _ _ c.work_out-decided.ensures _ c.state_at-state.ensures _ c.class-class.ensures a.1.taken) _ _ c.requires.1.1) c.then-left-eq0.branch
+    ⊎_elim (λ a. leaf_room _ _ _ (leaves-end _ _ _ a) _ _ c.requires.1) (λ a. leaf_room _ _ _ (flat-unless _ _ _ _ _ _ _ _ _ c.requires.0 _ _ _ _ c.work_out-decided.ensures _ c.state_at-state.ensures _ c.class-class.ensures (ap not (ne_eqb _ _ a.1))) _ _ c.requires.1) c.then-left-eq0.either
 
 pub write_child-returns-then-left-eq0 : goal.write_child-returns-then-left-eq0
 write_child-returns-then-left-eq0 t c =
-    ⊎_elim (λ a. written-flat _ _ _ _ _ _ _ _ _ c.requires.1.0 _ _ _ _ c.work_out-decided.ensures _ c.state_at-state.ensures _ c.class-class.ensures (leaves-end _ _ _ a.taken) _ _ _ _ c.put.ensures)
-    (λ a. written-flat _ _ _ _ _ _ _ _ _ c.requires.1.0 _ _ _ _ c.work_out-decided.ensures _ c.state_at-state.ensures _ c.class-class.ensures (flat-unless _ _ _ _ _ _ _ _ _ c.requires.1.0 _ _ _ _ c.work_out-decided.ensures _ c.state_at-state.ensures _ c.class-class.ensures a.1.taken) _ _ _ _ c.put.ensures) c.then-left-eq0.branch
+    ⊎_elim (λ a. written-flat _ _ _ _ _ _ _ _ _ c.requires.0 _ _ _ _ c.work_out-decided.ensures _ c.state_at-state.ensures _ c.class-class.ensures (leaves-end _ _ _ a) _ _ _ _ c.put.ensures)
+    (λ a. written-flat _ _ _ _ _ _ _ _ _ c.requires.0 _ _ _ _ c.work_out-decided.ensures _ c.state_at-state.ensures _ c.class-class.ensures (flat-unless _ _ _ _ _ _ _ _ _ c.requires.0 _ _ _ _ c.work_out-decided.ensures _ c.state_at-state.ensures _ c.class-class.ensures (ap not (ne_eqb _ _ a.1))) _ _ _ _ c.put.ensures) c.then-left-eq0.either
 
 pub write_child-write_children-requires : goal.write_child-write_children-requires
 write_child-write_children-requires t c =
     let start = c.requires in
-    let split = split-written _ _ _ _ _ _ _ _ _ start.1.0 _ _ _ _ c.work_out-decided.ensures _ c.state_at-state.ensures _ c.class-class.ensures c.if-left-eq0.false c.if-class-ne4.false in
-    (omega (arith, start.0), (split.0, (split.1, (split.2, start.1.1))))
+    let split = split-written _ _ _ _ _ _ _ _ _ start.0 _ _ _ _ c.work_out-decided.ensures _ c.state_at-state.ensures _ c.class-class.ensures c.if-left-eq0.false (ap not (eq-eqb _ _ c.if-class-ne4.false)) in
+    (omega (arith, c.decreases), (split.0, (split.1, (split.2, start.1))))
 
 pub write_child-returns : goal.write_child-returns
 write_child-returns t c = c.write_children.ensures
@@ -40,7 +43,7 @@ pub write_children-child-child-requires : goal.write_children-child-child-requir
 write_children-child-child-requires t c = search (rules, near-split)
 
 pub write_children-overflow_sub-left : goal.write_children-overflow_sub-left
-write_children-overflow_sub-left t c = omega (arith, c.requires.1.1.0.deep)
+write_children-overflow_sub-left t c = omega (arith, c.requires.1.0.deep)
 
 pub write_children-write_child-next-requires : goal.write_children-write_child-next-requires
 write_children-write_child-next-requires t c =
@@ -48,7 +51,7 @@ write_children-write_child-next-requires t c =
     let inv = c.loop-k.invariant in
     let few = c.loop-k-test.true in
     let child = c.child-child.ensures in
-    (omega (arith, start.0, start.1.1.0.deep), (ready-child _ _ _ _ _ _ _ _ _ start.1.0 _ _ c.carry-u.ensures _ _ _ _ _ inv.1 start.1.1.0.deep _ few _ child, child-room _ _ _ _ _ _ _ _ inv.0 few _ child start.1.1.1.1))
+    (omega (arith, c.decreases, start.1.0.deep), (ready-child _ _ _ _ _ _ _ _ _ start.0 _ _ c.carry-u.ensures _ _ _ _ _ inv.1 start.1.0.deep _ few _ child, child-room _ _ _ _ _ _ _ _ inv.0 few _ child start.1.1.1))
 
 pub write_children-loop-k-preserved : goal.write_children-loop-k-preserved
 write_children-loop-k-preserved t c =
@@ -61,4 +64,4 @@ pub write_children-returns : goal.write_children-returns
 write_children-returns t c =
     let inv = c.loop-k.invariant in
     let all = writing-all _ _ _ _ _ _ _ _ inv.0 (omega (arith, c.loop-k-test.false)) in
-    (all.0, all.1, left_below _ _ _ _ _ _ _ _ _ c.requires.1.0 _ _ c.carry-u.ensures _ _ _ _ _ inv.1)
+    (all.0, all.1, left_below _ _ _ _ _ _ _ _ _ c.requires.0 _ _ c.carry-u.ensures _ _ _ _ _ inv.1)

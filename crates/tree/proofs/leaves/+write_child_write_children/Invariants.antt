@@ -12,18 +12,16 @@ use Rattle.tree.proofs.Walking.{left-as-is, flat-unless, written-flat, split-wri
 use Prim.Native.Nat.{ℕ, ◌+◌, ◌-◌, ◌*◌, ◌<◌}
 use Rattle.tree.proofs.leaves.+write_child_write_children.Given as goal
 
--- PORT: measure
-abbrev μ-write-child : Measures 7 write-child-kinds.ps ℕ
-μ-write-child κs a = 2 * a.1.1.1.1.1.1.1.1.1.1.0 + 1
+abbrev pub decreases-write_child : goal.decreases-write_child
+decreases-write_child l = 2 * l.left + 1
 
--- PORT: measure
-abbrev μ-write-children : Measures 7 write-children-kinds.ps ℕ
-μ-write-children κs a = 2 * a.1.1.1.1.1.1.1.1.1.1.0
+abbrev pub decreases-write_children : goal.decreases-write_children
+decreases-write_children l = 2 * l.left
 
-abbrev pub write_children-invariant-loop-k : goal.write_children-invariant-loop-k
-write_children-invariant-loop-k l =
+abbrev pub invariant-write_children-loop-k : goal.invariant-write_children-loop-k
+invariant-write_children-loop-k l =
     Writing (solid_state (records_of l.s)) l.left l.q l.initial.out l.at l.out l.next l.k × Left (records_of l.s) l.u l.initial.tape l.tape l.low l.high l.classes l.faces
 
-abbrev pub write_children-decreases-loop-k : goal.write_children-decreases-loop-k
-write_children-decreases-loop-k l =
+abbrev pub decreases-write_children-loop-k : goal.decreases-write_children-loop-k
+decreases-write_children-loop-k l =
     8 - l.k

@@ -8,8 +8,8 @@ use Rattle.tree.proofs.leaves.count.Goals as goal
 pub returns-then-left-eq0 : goal.returns-then-left-eq0
 returns-then-left-eq0 c = (search (rules, one_end), search (rules, left-as-is))
 
-pub work_out-decided-requires : goal.work_out-decided-requires
-work_out-decided-requires c = (search rules, (search rules, (search (rules, near-judged), search rules)))
+pub work_out-decided-requires-clause-fact_3 : goal.work_out-decided-requires-clause-fact_3
+work_out-decided-requires-clause-fact_3 c = search (rules, near-judged)
 
 pub returns-then-class-ne4 : goal.returns-then-class-ne4
 returns-then-class-ne4 c =

@@ -1,5 +1,7 @@
 -- `zonemap::opening::read_header` meets its contract: length, version, root and depth, in this order.
 use Rattle.zonemap.proofs.Tests.{bad-length, header-room, bad-version, bad-root, good-header}
+use mathlib.Core.Path.{ap}
+use mathlib.Core.Bool.{not}
 use native.Mathlib.Omega.{arith}
 use borrow.Author.Rules.{rules}
 use Rattle.zonemap.proofs.opening.read_header.Goals as goal
@@ -8,7 +10,7 @@ pub returns-then-not-length_is_good : goal.returns-then-not-length_is_good
 returns-then-not-length_is_good c = search (rules, bad-length)
 
 pub bounds-map-4 : goal.bounds-map-4
-bounds-map-4 c = omega (arith, header-room _ _ c.length_is_good.ensures c.if-not-length_is_good.false)
+bounds-map-4 c = omega (arith, header-room _ _ c.length_is_good.ensures (ap not c.if-not-length_is_good.false))
 
 pub returns-then-map-ne-VERSION : goal.returns-then-map-ne-VERSION
 returns-then-map-ne-VERSION c = search (rules, bad-version)

@@ -4,10 +4,6 @@ use Rattle.zonemap.proofs.Tests.{power_small, size-some, place-yes, place-over, 
 use borrow.Author.Rules.{rules}
 use Rattle.zonemap.proofs.opening.size_in_place.Goals as goal
 
--- PORT: no such goal now: nonzero-rem-if1
-rem-if1 : tie.Need-nonzero-rem-if1
-rem-if1 c = search (rules, size-some)
-
 pub overflow_add-place : goal.overflow_add-place
 overflow_add-place c = omega (arith, power_small _ _ c.eight_to-size.ensures c.requires.fact_3)
 
@@ -19,3 +15,6 @@ returns-then-place-size-eq0 c = search (rules, place-over)
 
 pub returns : goal.returns
 returns c = search (rules, place-off)
+
+pub nonzero_rem-place : goal.nonzero_rem-place
+nonzero_rem-place c = search (rules, size-some)

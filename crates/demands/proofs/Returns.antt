@@ -1,5 +1,5 @@
--- What a `Contract` (specs/Contract) says of a run, in every model of the logic: a call whose arguments are as their types say returns, its machine value
--- stands for an answer, and the fact holds of it.
+-- What a `Contract` (specs/Contract) says of a run, in every model of the logic, where the names that the code has mean their code: a call whose arguments are
+-- as their types say returns, its machine value stands for an answer, and the fact holds of it.
 use Prim.Native.Nat.{ℕ}
 use mathlib.Core.Path.{◌≡◌}
 use mathlib.Core.Logic.{∥∥₁_prop, ∥∥₁_elim, ∥∥₁_map}
@@ -9,11 +9,14 @@ use base.Logic.{SProp, sep, ex, emp, via, comm∗, assoc∗, mono_l, fst∗, snd
 use prog.Machine.{done}
 use prog.Memory.{Memory}
 use prog.Model.{Model}
-use prog.Routine.{Routine, any_name}
+use prog.Routine.{step}
+use prog.How.{solo}
+use prog.Wired.{Code, Wired}
+use mir.Syntax.{Callee}
 use types.Logic.{Logic, sem}
 use contract.Adequate.{Satisfies, sat_weaken, sat_⇛, sat_ex∗, sat_fact}
 use contract.Monad.{fact}
-use contract.Running.{Running, alone}
+use contract.Running.{Running, strict, tables}
 use denote.Triple.Adequate.{adequate}
 use denote.Triple.Bound.{Bound, passed}
 use denote.Triple.Clauses.{Ended, Lasts, at_exit, lasts, closing}
@@ -21,8 +24,8 @@ use denote.Triple.Entry.{Res, on_entry}
 use denote.Triple.Spec.{Back, triple_of}
 use Rattle.demands.specs.Contract.{Fact, fact_of, just, Source, Contract}
 
-module _ (T : Ended) (source : Source T) (code : Routine) (says : Fact T) (k : Contract T source code says) where
-  module _ {M : Type 1} {𝓤 : Ura M} (𝓛 : Logic 𝓤) (𝓜 : Model 𝓤 𝓛.H) (𝓡 : Running 𝓤 𝓛.H 𝓜) (x : Bound 𝓛 T.signature) where
+module _ (T : Ended) (source : Source T) (name : Callee) (code : Code) (says : Fact T) (k : Contract T source name code says) where
+  module _ {M : Type 1} {𝓤 : Ura M} (𝓛 : Logic 𝓤) (𝓜 : Model 𝓤 𝓛.H) (𝓡 : Running 𝓤 𝓛.H 𝓜) (wired : Wired 𝓡.env code) (x : Bound 𝓛 T.signature) where
     open 𝓛 use {H}
 
     abbrev pub Answer : Type 0
@@ -74,15 +77,15 @@ module _ (T : Ended) (source : Source T) (code : Routine) (says : Fact T) (k : C
     -- a run from a memory: after n steps it is done, with the value v and the memory σ'
     abbrev pub Runs : Memory → SProp 𝓤 → Type 1
     Runs σ F =
-        (n : ℕ) × (v : Val) × (σ' : Memory) × (code.step n (passed 𝓛 T.signature x) σ ≡ done (v, σ'))
+        (n : ℕ) × (v : Val) × (σ' : Memory) × (step (𝓡.env name) n (passed 𝓛 T.signature x) σ ≡ done (v, σ'))
         × (r : Answer) × (ws : Last) × Said r ws × Satisfies 𝓤 H 𝓜 σ' (Left v r ws F)
 
     pub returns : (σ : Memory) (F : SProp 𝓤) → Satisfies 𝓤 H 𝓜 σ (sep 𝓤 Entered F) → ∥ Runs σ F ∥₁
-    unfolding alone
     returns σ F s =
+        let alone : Running 𝓤 H 𝓜 = strict 𝓤 H 𝓜 𝓡 in
         let spec = triple_of 𝓛 T.signature (closing 𝓛 T (just 𝓤 T says)) in
         let entered = sat_weaken 𝓤 H 𝓜 σ (mono_l 𝓤 F (via 𝓤 (sep 𝓤 (emp 𝓤) Entered) (emp∗ 𝓤 Entered) (comm∗ 𝓤 (emp 𝓤) Entered))) s in
-        ∥∥₁_elim (adequate 𝓤 H 𝓜 (alone 𝓤 H 𝓜 𝓡 code) any_name spec (k.met 𝓛 𝓜 𝓡) (x, tt) σ F entered) ∥∥₁_prop
+        ∥∥₁_elim (adequate 𝓤 H 𝓜 (tables 𝓤 H 𝓜 alone 𝓡.env) (λ s no. no, tt) name spec (k.met 𝓛 𝓜 alone wired) (x, tt) σ F entered) ∥∥₁_prop
         (λ t.
         ∥∥₁_elim (sat_ex∗ 𝓤 H 𝓜 t.2 (post t.1) F (sat_⇛ 𝓤 H 𝓜 t.2 (ex 𝓤 (post t.1)) F t.4)) ∥∥₁_prop
         (λ u. ∥∥₁_map (ends t.2 t.1 F u.0 u.1) (λ g. (t.0, t.1, t.2, t.3, u.0, g.0, g.1, g.2))))

@@ -5,6 +5,8 @@ use base.Logic.{SProp, emp}
 use prog.Memory.{Memory}
 use prog.Model.{Model}
 use prog.Routine.{Routine}
+use prog.Wired.{Code, Wired}
+use mir.Syntax.{Callee}
 use types.Logic.{Logic}
 use contract.Lifetimes.{Lfts}
 use contract.Monad.{Fun, fact}
@@ -21,11 +23,11 @@ use denote.Triple.Spec.{Meets}
 -- a parameter, as a fact reads it: its value or, if the call may write behind it, its value at entry and at exit
 abbrev pub Param : {D : Type 0} → Exit D → Type 0
 Param {D} unchanged = D
-Param {D} (leaves _ _ S _) = Both D S
+Param {D} (leaves _ _ S _ _) = Both D S
 
 abbrev pub param : {D : Type 0} (e : Exit D) → D → Seen e → Param e
 param unchanged x _ = x
-param (leaves _ _ _ _) x y = record { entry = x; exit = y }
+param (leaves _ _ _ _ _) x y = record { entry = x; exit = y }
 
 -- a fact of the parameters, one after the other, and of the answer
 module _ {n : ℕ} (κs : Lfts n) (Answer : Type 0) where
@@ -48,7 +50,7 @@ just 𝓤 T says κs entry = record { ghost = Unit {0}; requires = λ _. emp �
 abbrev pub Source : Ended → Type 2
 Source T = (M : Type 1) (𝓤 : Ura M) → (𝓛 : Logic 𝓤) → (Memory → SProp 𝓤) → (Routine → Fun 𝓤) → Clauses 𝓤 T
 
--- the clauses of the source are those of the fact, and the code meets them
-pub record Contract (T : Ended) (source : Source T) (code : Routine) (says : Fact T) : Type 2 where
+-- the clauses of the source are those of the fact, and the code meets them, under its name, wherever that name and all that the code names have their code
+pub record Contract (T : Ended) (source : Source T) (name : Callee) (code : Code) (says : Fact T) : Type 2 where
   pub written : {M : Type 1} {𝓤 : Ura M} (𝓛 : Logic 𝓤) (mem : Memory → SProp 𝓤) (run : Routine → Fun 𝓤) → source M 𝓤 𝓛 mem run ≡ just 𝓤 T says
-  pub met : {M : Type 1} {𝓤 : Ura M} (𝓛 : Logic 𝓤) (𝓜 : Model 𝓤 𝓛.H) (𝓡 : Running 𝓤 𝓛.H 𝓜) → Meets 𝓛 T.signature (𝓡.run code) (closing 𝓛 T (just 𝓤 T says))
+  pub met : {M : Type 1} {𝓤 : Ura M} (𝓛 : Logic 𝓤) (𝓜 : Model 𝓤 𝓛.H) (𝓡 : Running 𝓤 𝓛.H 𝓜) → Wired 𝓡.env code → Meets 𝓛 T.signature (𝓡.run (𝓡.env name)) (closing 𝓛 T (just 𝓤 T says))

@@ -2,7 +2,6 @@
 use native.Mathlib.Omega.{arith}
 use lib.ListN.{length-set}
 use Rattle.bigendian.proofs.Written.{four-stored}
-use borrow.Author.Rules.{rules}
 use Rattle.bigendian.proofs.put_u32.Goals as goal
 
 pub bounds-out-at-2 : goal.bounds-out-at-2

@@ -2,7 +2,6 @@
 use Prim.Native.Nat.{◌+◌}
 use native.Mathlib.Omega.{arith}
 use Rattle.bigendian.proofs.Laws.{two_bytes}
-use borrow.Author.Rules.{rules}
 use Rattle.bigendian.proofs.u16_at.Goals as goal
 
 pub overflow_cast-result : goal.overflow_cast-result

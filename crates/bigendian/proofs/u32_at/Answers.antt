@@ -1,6 +1,5 @@
 -- `bigendian::u32_at` meets its contract.
 use Rattle.bigendian.proofs.Laws.{four_bytes}
-use borrow.Author.Rules.{rules}
 use Rattle.bigendian.proofs.u32_at.Goals as goal
 
 pub returns : goal.returns

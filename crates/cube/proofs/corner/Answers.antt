@@ -1,7 +1,7 @@
 -- `cube::corner` meets its contract: one child number at a time, from the root down.
 use native.Mathlib.Omega.{arith}
 use borrow.Author.Rules.{rules}
-use Rattle.cube.proofs.Corners.{Digits, digits-start, digits-small, digits-half, digits-on, digits-all}
+use Rattle.cube.proofs.Corners.{digits-start, digits-small, digits-half, digits-on, digits-all}
 use Rattle.cube.proofs.corner.Goals as goal
 
 pub loop-i-init : goal.loop-i-init

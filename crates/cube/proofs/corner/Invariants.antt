@@ -1,7 +1,5 @@
 -- `cube::corner` meets its contract: one child number at a time, from the root down.
-use native.Mathlib.Omega.{arith}
-use borrow.Author.Rules.{rules}
-use Rattle.cube.proofs.Corners.{Digits, digits-start, digits-small, digits-half, digits-on, digits-all}
+use Rattle.cube.proofs.Corners.{Digits}
 use Rattle.cube.proofs.corner.Given as goal
 
 abbrev pub invariant-loop-i : goal.invariant-loop-i

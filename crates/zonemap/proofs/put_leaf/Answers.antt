@@ -3,7 +3,6 @@ use native.Mathlib.Omega.{arith}
 use mathlib.Core.Path.{refl}
 use lib.ListN.{length-set}
 use Rattle.zonemap.proofs.Bytes.{leaf-stored}
-use borrow.Author.Rules.{rules}
 use Rattle.zonemap.proofs.put_leaf.Goals as goal
 
 pub bounds-out-at-2 : goal.bounds-out-at-2

@@ -1,6 +1,5 @@
 -- `building::building::started` meets its contract: the arrays are what a walk needs.
 use Rattle.building.proofs.Outcomes.{zero-places}
-use borrow.Author.Rules.{rules}
 use Rattle.building.proofs.building.started.Goals as goal
 
 pub start-t-requires-clause-fact_4 : goal.start-t-requires-clause-fact_4

@@ -1,7 +1,6 @@
 -- `building::building::stored` meets its contract: the header and the leaves after it are the map.
 use native.Mathlib.Omega.{arith}
 use Rattle.building.proofs.Outcomes.{root-side, ready-root, ready-again, walks-counting, too_short, n-fits, n-few, header-room, walks-writing, whole}
-use borrow.Author.Rules.{rules}
 use Rattle.building.proofs.building.stored.Goals as goal
 
 pub cube-top-requires : goal.cube-top-requires

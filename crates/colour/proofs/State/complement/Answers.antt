@@ -1,5 +1,4 @@
 -- `colour::State::complement` meets its contract: a face keeps its number.
-use borrow.Author.Rules.{rules}
 use Rattle.colour.proofs.State.complement.Goals as goal
 
 pub returns-in-Single : goal.returns-in-Single

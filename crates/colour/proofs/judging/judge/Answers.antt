@@ -1,9 +1,8 @@
 -- `colour::judging::judge` meets its contract. The invariant is `Filling`: the first n records are done, and the arrays hold what is known of them.
 use borrow.Author.Rules.{rules, scaled_Fits, Fits-under}
-use Prim.Native.Nat.{◌-◌}
 use native.Mathlib.Omega.{arith}
 use Rattle.records.proofs.Walking.{walking-few, walking-fits, walking-listed, walking-stands}
-use Rattle.colour.proofs.Filling.{Filling, filling-start, held, judged-end, judged-past, filling-next}
+use Rattle.colour.proofs.Filling.{filling-start, held, judged-end, judged-past, filling-next}
 use Rattle.colour.proofs.judging.judge.Goals as goal
 
 pub loop-b-init : goal.loop-b-init

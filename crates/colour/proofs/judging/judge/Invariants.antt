@@ -1,9 +1,6 @@
 -- `colour::judging::judge` meets its contract. The invariant is `Filling`: the first n records are done, and the arrays hold what is known of them.
-use borrow.Author.Rules.{rules, scaled_Fits, Fits-under}
 use Prim.Native.Nat.{◌-◌}
-use native.Mathlib.Omega.{arith}
-use Rattle.records.proofs.Walking.{walking-few, walking-fits, walking-listed, walking-stands}
-use Rattle.colour.proofs.Filling.{Filling, filling-start, held, judged-end, judged-past, filling-next}
+use Rattle.colour.proofs.Filling.{Filling}
 use Rattle.colour.proofs.judging.judge.Given as goal
 
 abbrev pub invariant-loop-b : goal.invariant-loop-b

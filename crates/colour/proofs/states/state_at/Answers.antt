@@ -3,7 +3,6 @@ use native.Mathlib.Omega.{arith}
 use lib.ListN.{get_or}
 use borrow.Author.Tests.{ne_eqb}
 use Rattle.colour.specs.Held.{state_by}
-use borrow.Author.Rules.{rules}
 use Rattle.colour.proofs.states.state_at.Goals as goal
 
 pub returns-in-0 : goal.returns-in-0

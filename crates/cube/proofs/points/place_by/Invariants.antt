@@ -1,7 +1,5 @@
 -- `cube::points::place_by` meets its contract: one child number at a time, from the root down.
-use native.Mathlib.Omega.{arith}
-use borrow.Author.Rules.{rules}
-use Rattle.cube.proofs.Places.{Bits, bits-start, bits_small, bits-on, bits-all}
+use Rattle.cube.proofs.Places.{Bits}
 use Rattle.cube.proofs.points.place_by.Given as goal
 
 abbrev pub invariant-loop-i : goal.invariant-loop-i

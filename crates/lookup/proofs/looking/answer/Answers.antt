@@ -3,7 +3,6 @@ use native.Mathlib.Omega.{arith}
 use borrow.Author.Tests.{ne_eqb}
 use Rattle.lookup.specs.Lookup.{answer_of}
 use Rattle.lookup.proofs.Steps.{terminal, turned}
-use borrow.Author.Rules.{rules}
 use Rattle.lookup.proofs.looking.answer.Goals as goal
 
 pub returns-in-0 : goal.returns-in-0

@@ -1,8 +1,7 @@
 -- `records::marking::faces` meets its contract. The invariant is `Marking`: the first n records are done, and the list holds the mark of each.
-use Prim.Native.Nat.{◌-◌}
 use borrow.Author.Rules.{rules}
 use native.Mathlib.Omega.{arith}
-use Rattle.records.proofs.Marks.{Marking, marking-start, marking-end, marking-stands, marking-inside, marking-number, marking-fits, marking-next}
+use Rattle.records.proofs.Marks.{marking-start, marking-end, marking-stands, marking-inside, marking-number, marking-fits, marking-next}
 use Rattle.records.proofs.marking.faces.Goals as goal
 
 pub loop-n-init : goal.loop-n-init

@@ -1,8 +1,7 @@
 -- `records::standing::list_offsets` meets its contract. The invariant is `Listing`: the offsets of the first n records are listed.
-use Prim.Native.Nat.{◌-◌}
 use native.Mathlib.Omega.{arith}
 use Rattle.sheet.proofs.Good.{number-few}
-use Rattle.records.proofs.Listed.{Listing, listing_start, listing-end, listing-low, listing-stands, listing-next}
+use Rattle.records.proofs.Listed.{listing_start, listing-end, listing-low, listing-stands, listing-next}
 use Rattle.records.proofs.standing.list_offsets.Goals as goal
 
 pub loop-n-init : goal.loop-n-init

@@ -1,15 +1,10 @@
 -- `replacing::along::walk_child` and `walk_children` call each other. The measure is twice the levels left, plus 1 for the child; the invariant of the loop is
 -- `Walked`: k children were passed.
-use borrow.Author.Rules.{rules}
-use native.Mathlib.Omega.{arith}
 use Prim.Native.Nat.{◌+◌, ◌-◌, ◌*◌}
 use Rattle.sheet.specs.Records.{records_of}
 use Rattle.tree.specs.Solid.{solid_state}
 use Rattle.tree.specs.Walk.{Left}
-use Rattle.tree.proofs.Cubes.{near-judged, near-split}
-use Rattle.tree.proofs.Walking.{left-as-is, left-next, ready-child, left_below}
-use Rattle.replacing.proofs.Stepping.{Walked, leaf-three, leaf-offset, leaf-next, leaf_room, to-few, replace-room, passed-leaf, inner-leaf, walked_start, left-some, out-kept, along-child, walked_next, walked_all}
-use Prim.Native.Nat.{ℕ, ◌<◌}
+use Rattle.replacing.proofs.Stepping.{Walked}
 use Rattle.replacing.proofs.along.+walk_child_walk_children.Given as goal
 
 abbrev pub decreases-walk_child : goal.decreases-walk_child

@@ -1,6 +1,5 @@
 
 use Rattle.replacing.proofs.OneLeaf.{gray-room, gray-written, count_fits, end_fits, gray-counted, stands-room, stands-written, stands-counted}
-use borrow.Author.Rules.{rules}
 use Rattle.replacing.proofs.along.replace.Goals as goal
 
 pub write-requires-clause-fact_2 : goal.write-requires-clause-fact_2

@@ -1,6 +1,5 @@
 -- `replacing::along::walk` meets its contract: the first cube is met as a child is.
 use Rattle.replacing.proofs.Stepping.{leaf-three, leaf-offset, leaf-next, leaf_room, to-few, replace-room, passed-leaf, inner-leaf}
-use borrow.Author.Rules.{rules}
 use Rattle.replacing.proofs.along.walk.Goals as goal
 
 pub overflow_mul-next : goal.overflow_mul-next

@@ -1,6 +1,5 @@
 -- `replacing::seed::gray_map` meets its contract: the header, and one leaf after it.
 use Rattle.replacing.proofs.Grays.{gray-told}
-use borrow.Author.Rules.{rules}
 use Rattle.replacing.proofs.seed.gray_map.Goals as goal
 
 pub returns : goal.returns

@@ -1,8 +1,7 @@
 -- `sheet::operands::check_records` meets its contract. The invariant is `Sorting`: n records are done, and the array holds their sorts. The measure is the number of records that may still follow.
-use native.Mathlib.Omega.{arith}
 use borrow.Author.Rules.{rules}
 use Rattle.sheet.proofs.Walk.{fewer-left, found_below, found-fits}
-use Rattle.sheet.proofs.Sorting.{Sorting, sorting_start, unmet, sorting-next, sorted-end}
+use Rattle.sheet.proofs.Sorting.{sorting_start, unmet, sorting-next, sorted-end}
 use Rattle.sheet.proofs.operands.check_records.Goals as goal
 
 pub loop-r-init : goal.loop-r-init

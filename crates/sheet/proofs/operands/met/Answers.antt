@@ -1,6 +1,5 @@
 -- `sheet::operands::met` meets its contract.
 use mathlib.Core.Path.{sym, ◌∙◌}
-use borrow.Author.Rules.{rules}
 use Rattle.sheet.proofs.operands.met.Goals as goal
 
 pub returns-then-suits : goal.returns-then-suits

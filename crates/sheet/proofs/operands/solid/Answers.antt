@@ -1,5 +1,4 @@
 -- `sheet::operands::solid` meets its contract.
-use borrow.Author.Rules.{rules}
 use Rattle.sheet.proofs.operands.solid.Goals as goal
 
 pub returns-in-Neither : goal.returns-in-Neither

@@ -1,7 +1,6 @@
 -- `sheet::reading::stop` meets its contract. The invariant: the cursor has 256 - left records before it. The measure is `left`.
 use Prim.Native.Nat.{◌-◌}
-use borrow.Author.Rules.{rules}
-use Rattle.sheet.proofs.Walk.{At, at_first, at_after, fewer-left, stop_is}
+use Rattle.sheet.proofs.Walk.{At}
 use Rattle.sheet.proofs.reading.stop.Given as goal
 
 abbrev pub invariant-loop-next : goal.invariant-loop-next

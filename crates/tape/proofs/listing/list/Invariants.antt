@@ -1,9 +1,6 @@
 -- `tape::listing::list` meets its contract. The invariant is `Putting`: the words of the first n records are done.
-use borrow.Author.Rules.{rules, scaled_Fits, Fits-under}
 use Prim.Native.Nat.{◌-◌}
-use native.Mathlib.Omega.{arith}
-use Rattle.records.proofs.Walking.{walking-few, walking-fits, walking-listed, walking-stands}
-use Rattle.tape.proofs.Putting.{Putting, putting-start, putting-end, putting-room, putting-next}
+use Rattle.tape.proofs.Putting.{Putting}
 use Rattle.tape.proofs.listing.list.Given as goal
 
 abbrev pub invariant-loop-n : goal.invariant-loop-n

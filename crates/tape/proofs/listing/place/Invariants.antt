@@ -1,9 +1,6 @@
 -- `tape::listing::place` meets its contract. The invariant is `Placing`: the entries of the first n records are in place.
-use borrow.Author.Rules.{rules, scaled_Fits}
 use Prim.Native.Nat.{◌-◌}
-use native.Mathlib.Omega.{arith}
-use Rattle.records.proofs.Walking.{walking-few, walking-fits, walking-listed, walking-stands}
-use Rattle.tape.proofs.Placing.{Placing, placing-start, placing-end, placing-low, placing-high, placing-class, placing-next}
+use Rattle.tape.proofs.Placing.{Placing}
 use Rattle.tape.proofs.listing.place.Given as goal
 
 abbrev pub invariant-loop-n : goal.invariant-loop-n

@@ -3,7 +3,6 @@ use Prim.Native.Nat.{◌/◌, ◌%◌}
 use native.Mathlib.Omega.{arith}
 use lib.ListN.{length-set}
 use Rattle.tape.proofs.Keeping.{one-yes, one-no}
-use borrow.Author.Rules.{rules}
 use Rattle.tape.proofs.shortening.keep_one.Goals as goal
 
 pub bounds-marks-w-then-marks-w-eq1-2 : goal.bounds-marks-w-then-marks-w-eq1-2

@@ -1,8 +1,6 @@
 -- `tape::shortening::own_twins` meets its contract.
-use borrow.Author.Rules.{rules}
 use Prim.Native.Nat.{◌-◌}
-use native.Mathlib.Omega.{arith}
-use Rattle.tape.proofs.Owning.{Owning, owning-start, owning-next, owning-end}
+use Rattle.tape.proofs.Owning.{Owning}
 use Rattle.tape.proofs.shortening.own_twins.Given as goal
 
 abbrev pub invariant-loop-i : goal.invariant-loop-i

@@ -1,9 +1,8 @@
 -- `tape::shortening::rename` meets its contract. The invariant is `Renaming`.
-use borrow.Author.Rules.{rules}
 use mathlib.Core.Path.{refl}
 use Prim.Native.Nat.{◌-◌}
 use native.Mathlib.Omega.{arith}
-use Rattle.tape.proofs.Renaming.{Renaming, renaming-start, renaming-next, renaming-end}
+use Rattle.tape.proofs.Renaming.{renaming-start, renaming-next, renaming-end}
 use Rattle.tape.proofs.shortening.rename.Goals as goal
 
 pub loop-i-init : goal.loop-i-init

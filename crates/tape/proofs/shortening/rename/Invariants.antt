@@ -1,9 +1,6 @@
 -- `tape::shortening::rename` meets its contract. The invariant is `Renaming`.
-use borrow.Author.Rules.{rules}
-use mathlib.Core.Path.{refl}
 use Prim.Native.Nat.{◌-◌}
-use native.Mathlib.Omega.{arith}
-use Rattle.tape.proofs.Renaming.{Renaming, renaming-start, renaming-next, renaming-end}
+use Rattle.tape.proofs.Renaming.{Renaming}
 use Rattle.tape.proofs.shortening.rename.Given as goal
 
 abbrev pub invariant-loop-i : goal.invariant-loop-i

@@ -2,7 +2,6 @@
 use Prim.Native.Nat.{◌/◌, ◌%◌}
 use native.Mathlib.Omega.{arith}
 use Rattle.tape.proofs.Twins.{same_word, new_word}
-use borrow.Author.Rules.{rules}
 use Rattle.tape.proofs.shortening.renamed.Goals as goal
 
 pub returns-then-kind-lt17 : goal.returns-then-kind-lt17

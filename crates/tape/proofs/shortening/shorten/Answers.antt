@@ -1,7 +1,6 @@
 -- `tape::shortening::shorten` meets its contract.
 use mathlib.Core.List.{[]}
 use Rattle.tape.proofs.Shortened.{shorten-moves, shorten-told}
-use borrow.Author.Rules.{rules}
 use Rattle.tape.proofs.shortening.shorten.Goals as goal
 
 pub rename-requires-clause-fact_1 : goal.rename-requires-clause-fact_1

@@ -1,6 +1,5 @@
 -- `tape::shortening::twin` meets its contract.
 use Rattle.tape.proofs.Twins.{twin-1, twin-2, twin-3, twin-4, twin-5, twin-6, twin-7}
-use borrow.Author.Rules.{rules}
 use Rattle.tape.proofs.shortening.twin.Goals as goal
 
 pub returns-then-classes-a-eq1 : goal.returns-then-classes-a-eq1

@@ -1,7 +1,6 @@
 -- `tape::shortening::twin_of` meets its contract.
 use mathlib.Core.Path.{refl}
 use native.Mathlib.Omega.{arith}
-use borrow.Author.Rules.{rules}
 use Rattle.tape.proofs.shortening.twin_of.Goals as goal
 
 pub returns : goal.returns

@@ -1,6 +1,6 @@
 
 use Prim.Native.Nat.{◌-◌}
-use Rattle.tape.proofs.Filling.{Bounding, bounding-start, bounding-sort, bounding-never, bounding-again, bounding-end}
+use Rattle.tape.proofs.Filling.{bounding-start, bounding-sort, bounding-never, bounding-again, bounding-end}
 use borrow.Author.Rules.{rules}
 use Rattle.tape.proofs.working.fill_bounds.Goals as goal
 

@@ -1,7 +1,7 @@
 -- `tape::working::fill_states` meets its contract. The invariant is `Stating`; no more words are decided than were met.
-use Prim.Native.Nat.{◌-◌, ◌≤◌}
+use Prim.Native.Nat.{◌-◌}
 use native.Mathlib.Omega.{arith}
-use Rattle.tape.proofs.Filling.{Stating, stating-start, stating-sort, stating-next, stating-end}
+use Rattle.tape.proofs.Filling.{stating-start, stating-sort, stating-next, stating-end}
 use borrow.Author.Rules.{rules}
 use Rattle.tape.proofs.working.fill_states.Goals as goal
 

@@ -1,8 +1,6 @@
 -- `tape::working::fill_states` meets its contract. The invariant is `Stating`; no more words are decided than were met.
 use Prim.Native.Nat.{◌-◌, ◌≤◌}
-use native.Mathlib.Omega.{arith}
-use Rattle.tape.proofs.Filling.{Stating, stating-start, stating-sort, stating-next, stating-end}
-use borrow.Author.Rules.{rules}
+use Rattle.tape.proofs.Filling.{Stating}
 use Rattle.tape.proofs.working.fill_states.Given as goal
 
 abbrev pub invariant-loop-i : goal.invariant-loop-i

@@ -2,13 +2,10 @@
 -- invariant is `Counting`, k children were counted, with what the walk leaves.
 use borrow.Author.Rules.{rules}
 use native.Mathlib.Omega.{arith}
-use Rattle.sheet.specs.Records.{records_of}
-use Rattle.tree.specs.Solid.{solid_state}
-use Rattle.tree.specs.Walk.{Left}
 use Rattle.tree.proofs.Cubes.{near-judged, near-split}
-use Rattle.tree.proofs.Counting.{Counting, counting-start, counted-all}
+use Rattle.tree.proofs.Counting.{counting-start, counted-all}
 use Rattle.tree.proofs.Walking.{eight, left-as-is, counted-flat, split-counted, ready-child, left_below, total-fits, total-next, left-next}
-use Prim.Native.Nat.{ℕ, ◌+◌, ◌-◌, ◌*◌, ◌<◌}
+use Prim.Native.Nat.{◌-◌}
 use Rattle.tree.proofs.leaves.+count_child_count_children.Goals as goal
 
 pub count_child-work_out-decided-requires-clause-fact_3 : goal.count_child-work_out-decided-requires-clause-fact_3

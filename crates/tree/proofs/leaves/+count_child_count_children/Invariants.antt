@@ -1,14 +1,10 @@
 -- `tree::leaves::count_child` and `count_children` call each other. The measure is twice the levels left, and one more for a child, which may not be split; the
 -- invariant is `Counting`, k children were counted, with what the walk leaves.
-use borrow.Author.Rules.{rules}
-use native.Mathlib.Omega.{arith}
 use Rattle.sheet.specs.Records.{records_of}
 use Rattle.tree.specs.Solid.{solid_state}
 use Rattle.tree.specs.Walk.{Left}
-use Rattle.tree.proofs.Cubes.{near-judged, near-split}
-use Rattle.tree.proofs.Counting.{Counting, counting-start, counted-all}
-use Rattle.tree.proofs.Walking.{eight, left-as-is, counted-flat, split-counted, ready-child, left_below, total-fits, total-next, left-next}
-use Prim.Native.Nat.{ℕ, ◌+◌, ◌-◌, ◌*◌, ◌<◌}
+use Rattle.tree.proofs.Counting.{Counting}
+use Prim.Native.Nat.{◌+◌, ◌-◌, ◌*◌}
 use Rattle.tree.proofs.leaves.+count_child_count_children.Given as goal
 
 abbrev pub decreases-count_child : goal.decreases-count_child

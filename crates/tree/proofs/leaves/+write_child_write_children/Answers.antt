@@ -6,13 +6,10 @@ use mathlib.Core.Path.{ap}
 use mathlib.Core.Bool.{not}
 use native.Mathlib.Omega.{arith}
 use mathlib.Core.Logic.{⊎_elim}
-use Rattle.sheet.specs.Records.{records_of}
-use Rattle.tree.specs.Solid.{solid_state}
-use Rattle.tree.specs.Walk.{Left}
 use Rattle.tree.proofs.Cubes.{leaves-end, near-judged, near-split}
-use Rattle.tree.proofs.Stores.{Writing, leaf_room, writing_start, writing-length, writing-all, child-room}
+use Rattle.tree.proofs.Stores.{leaf_room, writing_start, writing-length, writing-all, child-room}
 use Rattle.tree.proofs.Walking.{left-as-is, flat-unless, written-flat, split-written, ready-child, left_below, written_next, left-next}
-use Prim.Native.Nat.{ℕ, ◌+◌, ◌-◌, ◌*◌, ◌<◌}
+use Prim.Native.Nat.{◌-◌}
 use Rattle.tree.proofs.leaves.+write_child_write_children.Goals as goal
 
 pub write_child-work_out-decided-requires-clause-fact_3 : goal.write_child-work_out-decided-requires-clause-fact_3

@@ -1,15 +1,10 @@
 -- `tree::leaves::write_child` and `write_children` call each other. The measure is twice the levels left, and one more for a child, which may not be split; the
 -- invariant is `Writing`, k children were written, with what the walk leaves.
-use borrow.Author.Rules.{rules}
-use native.Mathlib.Omega.{arith}
-use mathlib.Core.Logic.{⊎_elim}
 use Rattle.sheet.specs.Records.{records_of}
 use Rattle.tree.specs.Solid.{solid_state}
 use Rattle.tree.specs.Walk.{Left}
-use Rattle.tree.proofs.Cubes.{leaves-end, near-judged, near-split}
-use Rattle.tree.proofs.Stores.{Writing, leaf_room, writing_start, writing-length, writing-all, child-room}
-use Rattle.tree.proofs.Walking.{left-as-is, flat-unless, written-flat, split-written, ready-child, left_below, written_next, left-next}
-use Prim.Native.Nat.{ℕ, ◌+◌, ◌-◌, ◌*◌, ◌<◌}
+use Rattle.tree.proofs.Stores.{Writing}
+use Prim.Native.Nat.{◌+◌, ◌-◌, ◌*◌}
 use Rattle.tree.proofs.leaves.+write_child_write_children.Given as goal
 
 abbrev pub decreases-write_child : goal.decreases-write_child

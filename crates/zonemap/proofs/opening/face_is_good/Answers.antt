@@ -11,6 +11,6 @@ returns-in-2 c = face-named _ _ (omega arith) (omega arith)
 pub returns-in_default : goal.returns-in_default
 returns-in_default c =
     elim c.in_default.branch [
-      in_default-via-then-class-lt2 w ↦ face-none _ _ (inl (omega arith))
-    | in_default-via-else-class-lt2+else-class-lt4 w ↦ face-none _ _ (inr (omega arith))
+      | in_default-via-then-class-lt2 w ↦ face-none _ _ (inl (omega arith))
+      | in_default-via-else-class-lt2+else-class-lt4 w ↦ face-none _ _ (inr (omega arith))
     ]

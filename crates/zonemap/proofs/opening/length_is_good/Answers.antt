@@ -1,6 +1,5 @@
 -- `zonemap::opening::length_is_good` meets its contract: too short, agreeing or not.
 use Rattle.zonemap.proofs.Tests.{length-short, length-agrees, length-differs}
-use borrow.Author.Rules.{rules}
 use Rattle.zonemap.proofs.opening.length_is_good.Goals as goal
 
 pub returns-then-map-lt-HEADER : goal.returns-then-map-lt-HEADER

@@ -1,7 +1,6 @@
 -- `zonemap::opening::place_or_first` meets its contract.
 use Rattle.cube.proofs.Limits.{limits-sizes}
 use Rattle.zonemap.proofs.Opens.{place_inside, place-outside, root-holds}
-use borrow.Author.Rules.{rules}
 use Rattle.zonemap.proofs.opening.place_or_first.Goals as goal
 
 pub cube-requires : goal.cube-requires

@@ -1,10 +1,7 @@
 -- `zonemap::opening::scan` meets its contract: the remaining leaves determine what the whole list does.
 use borrow.Author.Rules.{rules}
-use Prim.Native.Nat.{◌-◌}
 use native.Mathlib.Omega.{arith}
-use lib.Dec.{eqb}
-use lib.ListN.{length, get_or}
-use Rattle.zonemap.proofs.Scan.{Scan, scan-start, scan-less, scan-below, scan-fits, scan-bad, scan-on, scan_good, scan-short}
+use Rattle.zonemap.proofs.Scan.{scan-start, scan-less, scan-below, scan-fits, scan-bad, scan-on, scan_good, scan-short}
 use Rattle.zonemap.proofs.opening.scan.Goals as goal
 
 pub loop-at-init : goal.loop-at-init

@@ -1,10 +1,8 @@
 -- `zonemap::opening::scan` meets its contract: the remaining leaves determine what the whole list does.
-use borrow.Author.Rules.{rules}
 use Prim.Native.Nat.{◌-◌}
-use native.Mathlib.Omega.{arith}
 use lib.Dec.{eqb}
 use lib.ListN.{length, get_or}
-use Rattle.zonemap.proofs.Scan.{Scan, scan-start, scan-less, scan-below, scan-fits, scan-bad, scan-on, scan_good, scan-short}
+use Rattle.zonemap.proofs.Scan.{Scan}
 use Rattle.zonemap.proofs.opening.scan.Given as goal
 
 abbrev pub invariant-loop-at : goal.invariant-loop-at

@@ -201,7 +201,7 @@ fn the_limit_of_bounds() {
 }
 
 #[test]
-fn all_calls_with_a_root_say_which_end_passes_the_limit() {
+fn a_lookup_and_a_build_say_which_end_passes_the_limit() {
     let map = build_vec(SHEET, AT_THE_END).unwrap();
     let refused = |sheet: &[u8], why| {
         assert_eq!(build(sheet, AT_THE_END, &mut []), Err(why));
@@ -256,7 +256,7 @@ fn damaged_maps_are_refused_at_their_first_fault() {
 }
 
 #[test]
-fn only_calls_with_a_sheet_ask_whether_a_leaf_names_a_face() {
+fn only_a_lookup_asks_whether_a_leaf_names_a_face() {
     let no_face = damaged(24, 7);
     assert_eq!(open(&no_face), Ok(8));
     let refused = Refusal::Map { offset: 22 };

@@ -1,10 +1,11 @@
--- Working a tape out over a cube gives each record that it lists its entry there.
+-- Working a tape out over a cube gives each record that it lists its entry there: so the solid its state.
 use mathlib.Core.Path.{◌≡◌, refl, sym, ap, ◌∙◌}
 use mathlib.Core.Bool.{Bool, true, false, ◌||◌, or-true, or-false}
 use mathlib.Core.List.{List, [], ◌∷◌}
-use Prim.Native.Nat.{ℕ}
+use Prim.Native.Nat.{ℕ, ◌-◌}
 use borrow.Author.Tests.{eqb-true, eq-eqb}
 use lib.Dec.{eqb}
+use lib.ListN.{length}
 use Rattle.integers.proofs.Order.{by-test}
 use Rattle.sheet.specs.declared.Record.{Record}
 use Rattle.sheet.specs.declared.Record.TheVariants.{Constant, X, Y, Z, Sum, Difference, Product, Square, Face, Both, Either, Complement}
@@ -13,7 +14,7 @@ use Rattle.cube.specs.Points.{CubeInside}
 use Rattle.colour.specs.Bounds.{bounds_of}
 use Rattle.colour.specs.States.{state_with}
 use Rattle.colour.specs.Entries.{Entry, face_bounds}
-use Rattle.carried.specs.Words.{over, Word, word, entry_by, TrueWithin, AllTrue, reads, more, Finds, Closed, listed, put, run}
+use Rattle.carried.specs.Words.{over, state_over, Word, word, entry_by, TrueWithin, AllTrue, reads, more, Finds, Closed, listed, Carried, put, run}
 
 -- ---- sets
 pub first_read : (a b : ℕ) → (eqb a a || eqb a b) ≡ true
@@ -78,3 +79,8 @@ module _ (rs : List Record) (q outer : Cube) (h : CubeInside q outer) where
   run-right [] known e t c k = k
   run-right (w ∷ ws) known e t c k =
       run-right ws (more known w.number) (put e w.number (entry_by q e w)) t.1 c.1 (right-more known e w t.0 c.0 k)
+
+  -- the solid's state over a cube, from what is carried
+  pub solid-carried : (base : ℕ → Bool) (ws : List Word) (solid : ℕ) → Carried rs outer base ws solid → (e : ℕ → Entry) → Right base e
+      → (run q e ws solid).state ≡ state_over rs q (length rs - 1)
+  solid-carried base ws solid c e k = ap (λ (x : Entry). x.state) (run-right ws base e c.holds c.closed k solid c.there) ∙ c.same q h

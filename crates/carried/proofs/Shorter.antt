@@ -5,21 +5,36 @@ use mathlib.Core.List.{List, [], ◌∷◌, map}
 use Prim.Native.Nat.{ℕ}
 use borrow.Author.Tests.{eqb-true, eq-eqb}
 use lib.Dec.{eqb}
-use Rattle.integers.proofs.Order.{by-test}
+use lib.Signed.{≤ℤ_refl}
+use Rattle.integers.proofs.Order.{by-test, ≤_trans}
 use Rattle.sheet.specs.declared.Record.{Record}
 use Rattle.sheet.specs.declared.Record.TheVariants.{Constant, X, Y, Z, Sum, Difference, Product, Square, Face, Both, Either, Complement}
 use Rattle.cube.specs.declared.Cube.{Cube}
 use Rattle.cube.specs.Points.{CubeInside}
-use Rattle.cube.proofs.Cubes.{inside-trans}
 use Rattle.colour.specs.declared.State.{State}
 use Rattle.colour.specs.Bounds.{none, bounds_of}
 use Rattle.colour.specs.States.{is_in, is_out, both_of, either_of, complement_of, state_with}
 use Rattle.colour.specs.Entries.{Entry}
-use Rattle.carried.specs.Words.{over, state_over, Word, word, entry_by, TrueWithin, AllTrue, reads, more, Finds, Closed, listed, Carried, put, twin_by, renamed, twin_after, rename_all, twins, needed, kept, shorter_solid}
+use Rattle.carried.specs.Words.{over, state_over, Word, word, entry_by, TrueWithin, AllTrue, reads, more, Finds, Closed, listed, Carried, put, twin_by, renamed, twin_after, rename_all, twins, needed, kept, shorter_solid, shorter}
 use Rattle.colour.proofs.Joined.{is-in, is-out}
 use Rattle.colour.proofs.Turned.{both-in}
 use Rattle.carried.proofs.Narrower.{in_both, either-out, out-either, stays-in, stays_out}
 use Rattle.carried.proofs.Running.{first_read, second-read, more-either, more-old, more-new, listed-old}
+
+-- ---- cubes
+pub inside-itself : (q : Cube) → CubeInside q q
+inside-itself q = record { x-low = ≤ℤ_refl _; x-high = ≤ℤ_refl _; y-low = ≤ℤ_refl _; y-high = ≤ℤ_refl _; z-low = ≤ℤ_refl _; z-high = ≤ℤ_refl _ }
+
+pub inside-trans : (q inner outer : Cube) → CubeInside q inner → CubeInside inner outer → CubeInside q outer
+inside-trans q inner outer h k =
+    record {
+      x-low = ≤_trans _ _ _ k.x-low h.x-low;
+      x-high = ≤_trans _ _ _ h.x-high k.x-high;
+      y-low = ≤_trans _ _ _ k.y-low h.y-low;
+      y-high = ≤_trans _ _ _ h.y-high k.y-high;
+      z-low = ≤_trans _ _ _ k.z-low h.z-low;
+      z-high = ≤_trans _ _ _ h.z-high k.z-high;
+    }
 
 -- ---- what is carried to a cube serves all cubes inside it
 module _ (rs : List Record) (inner outer : Cube) (h : CubeInside inner outer) where
@@ -115,6 +130,10 @@ module _ {R : Type 0} (is : R → Word) (uses : R → ℕ → Bool) (covers : (w
         there = kept-listed (λ a. eqb a solid) ws base base (λ a t u. t) solid c.there (eq-eqb solid solid refl);
         same = c.same;
       }
+
+map_same : (ws : List Word) → map (λ (w : Word). w) ws ≡ ws
+map_same [] = refl
+map_same (w ∷ ws) = ap (λ (l : List Word). w ∷ l) (map_same ws)
 
 -- ---- records take their twins' places
 either-read : {P : Type 0} (a b c : ℕ) → (eqb c a || eqb c b) ≡ true → (c ≡ a → P) → (c ≡ b → P) → P
@@ -282,3 +301,13 @@ module _ (rs : List Record) (inner : Cube) (s : ℕ → State) where
         there = rename-listed ws base (λ a. a) (λ a t. t) c.closed solid c.there;
         same = λ q k. sym (twins-true ws base (λ a. a) (λ a q k. refl) c.holds c.closed h solid q k) ∙ c.same q k;
       }
+
+-- THE LAW. What is carried to a cube, shortened by the states over a cube inside it, may be carried down from there.
+pub carried-shorter : (rs : List Record) (inner outer : Cube) → CubeInside inner outer → (base : ℕ → Bool) (ws : List Word) (solid : ℕ) → Carried rs outer base ws solid
+    → (s : ℕ → State) → ((a : ℕ) → listed base ws a ≡ true → s a ≡ state_over rs inner a) → Carried rs inner base (shorter s ws solid) (shorter_solid s ws solid)
+carried-shorter rs inner outer k base ws solid c s h =
+    let twin = shorter_solid s ws solid in
+    let renamed = rename_all s (λ a. a) ws in
+    let r : Carried rs inner base renamed twin = carried-renamed rs inner s base ws solid (carried-inner rs inner outer k base ws solid c) h in
+    let m : Carried rs inner base (map (λ (w : Word). w) renamed) twin = rw (map_same renamed) r in
+    rw (map_same (shorter s ws solid)) at (carried-kept (λ w. w) (λ w. reads w.what) (λ w a t. t) rs inner base renamed twin m)

@@ -1,5 +1,6 @@
 -- What is carried down to the children of a cube: words, each an equation between entries that holds over every cube inside.
 use Rattle.std.specs.Prelude.{ℕ, zero, suc, ◌-◌, ◌≡◌, Bool, true, false, cond, not, ◌&&◌, ◌||◌, List, [], ◌∷◌, ◌++◌, eqb, length, get_or}
+use Rattle.interval.specs.declared.Interval.{Interval}
 use Rattle.sheet.specs.declared.Record.{Record}
 use Rattle.sheet.specs.declared.Record.TheVariants.{Constant, X, Y, Z, Sum, Difference, Product, Square, Face, Both, Either, Complement}
 use Rattle.sheet.specs.declared.Sort.{Sort}
@@ -15,6 +16,9 @@ use Rattle.colour.specs.Entries.{Entry, blank, face_bounds, entries}
 -- the entry of record n over a cube
 abbrev pub over : List Record → Cube → ℕ → Entry
 over rs q n = get_or (entries q rs) n blank
+
+abbrev pub bounds_over : List Record → Cube → ℕ → Interval
+bounds_over rs q n = (over rs q n).bounds
 
 abbrev pub state_over : List Record → Cube → ℕ → State
 state_over rs q n = (over rs q n).state
@@ -143,9 +147,12 @@ module _ {R : Type 0} (is : R → Word) (uses : R → ℕ → Bool) where
   kept wanted [] = []
   kept wanted (w ∷ ws) = cond (needed wanted ws (is w).number) (w ∷ kept wanted ws) (kept wanted ws)
 
--- whose state the solid's is, over the cubes inside a cube over which the records have these states
+-- the tape for the cubes inside a cube over which the records have these states, and whose state the solid's then is
 abbrev pub shorter_solid : (ℕ → State) → List Word → ℕ → ℕ
 shorter_solid s ws solid = twins s (λ a. a) ws solid
+
+abbrev pub shorter : (ℕ → State) → List Word → ℕ → List Word
+shorter s ws solid = kept (λ w. w) (λ w. reads w.what) (λ a. eqb a (shorter_solid s ws solid)) (rename_all s (λ a. a) ws)
 
 -- ---- what is carried to the root
 -- record n's own word

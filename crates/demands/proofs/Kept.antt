@@ -44,7 +44,7 @@ demand-1 = record {
   build-refused = build-refused;
   refine-refused = refine-refused;
   lookup-refused = lookup-refused;
-  build-unchanged = λ sheet root before. unchanged before sheet root;
+  unchanged = λ sheet root before. unchanged before sheet root;
   refine-unchanged = refine-unchanged;
 }
 

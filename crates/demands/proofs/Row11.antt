@@ -92,6 +92,6 @@ reply-11 = record {
   inside = λ rs inner outer h. bounds-inside inner outer h rs;
   keeps = λ rs inner outer h. keep-smaller inner outer h rs;
   same = same;
-  never = λ sheet map before root d p.
-      (never-11 (check_of sheet), never-11 (build_of sheet root before).reply, never-11 (refine_of sheet map d before).reply, never-11 (open_of map), never-11 (numbered (lookup_of sheet map p)));
+  never = λ sheet map before root p. (never-11 (check_of sheet), never-11 (build_of sheet root before).reply, never-11 (open_of map), never-11 (numbered (lookup_of sheet map p)));
+  refine-never = λ sheet map d before. never-11 (refine_of sheet map d before).reply;
 }

@@ -41,7 +41,7 @@ pub record Demand1 : Type 0 where
   pub refine-refused : (sheet : List ℕ) → ((zone_check_of sheet).code ≡ 0 → ⊥) → (map : List ℕ) (d : ℕ) (before : List ℕ) → zone_refine_of sheet map d before ≡ zone_outcome (zone_check_of sheet) before
   pub lookup-refused : (sheet : List ℕ) → ((zone_check_of sheet).code ≡ 0 → ⊥) → (map : List ℕ) (p : Point) → zone_lookup_of sheet map p ≡ zone_check_of sheet
   -- a refusal leaves the buffer unchanged
-  pub build-unchanged : (sheet : List ℕ) (root : Root) (before : List ℕ) → ((zone_build_of sheet root before).reply.code ≡ 0 → ⊥) → (zone_build_of sheet root before).buffer ≡ before
+  pub unchanged : (sheet : List ℕ) (root : Root) (before : List ℕ) → ((zone_build_of sheet root before).reply.code ≡ 0 → ⊥) → (zone_build_of sheet root before).buffer ≡ before
   pub refine-unchanged : (sheet map : List ℕ) (d : ℕ) (before : List ℕ) → ((zone_refine_of sheet map d before).reply.code ≡ 0 → ⊥) → (zone_refine_of sheet map d before).buffer ≡ before
 
 -- 2. The map is exactly the one named by the interval rules in document 01: same cubes, order, colours and length.

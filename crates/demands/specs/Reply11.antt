@@ -19,5 +19,6 @@ pub record Reply11 : Type 0 where
   -- for every input zone_build has the outcome of document 01's table as it was, with row 11 tested at each cube of the tree: the reply, and every byte
   pub same : (sheet : List ℕ) (root : Root) (before : List ℕ) → zone_build_of sheet root before ≡ build_with_row11 sheet root before
   -- and no call returns 11
-  pub never : (sheet map before : List ℕ) (root : Root) (d : ℕ) (p : Point)
-      → Never 11 (zone_check_of sheet) × Never 11 (zone_build_of sheet root before).reply × Never 11 (zone_refine_of sheet map d before).reply × Never 11 (zone_open_of map) × Never 11 (zone_lookup_of sheet map p)
+  pub never : (sheet map before : List ℕ) (root : Root) (p : Point)
+      → Never 11 (zone_check_of sheet) × Never 11 (zone_build_of sheet root before).reply × Never 11 (zone_open_of map) × Never 11 (zone_lookup_of sheet map p)
+  pub refine-never : (sheet map : List ℕ) (d : ℕ) (before : List ℕ) → Never 11 (zone_refine_of sheet map d before).reply

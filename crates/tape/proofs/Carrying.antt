@@ -12,7 +12,6 @@ use Rattle.sheet.specs.declared.Record.TheVariants.{Constant, X, Y, Z, Sum, Diff
 use Rattle.sheet.specs.Operands.{sort_of}
 use Rattle.cube.specs.declared.Cube.{Cube}
 use Rattle.cube.specs.Points.{CubeInside}
-use Rattle.cube.proofs.Cubes.{inside-itself}
 use Rattle.colour.specs.declared.State.{State}
 use Rattle.carried.specs.Words.{state_over, Word, word, renamed, twin_after, rename_all, needed, kept, is_logical}
 use Rattle.tape.specs.declared.Tape.{Tape}
@@ -20,7 +19,7 @@ use Rattle.tape.specs.Memory.{word_in, words_in, uses_in, state_in}
 use Rattle.tape.specs.Working.{OfSort}
 use Rattle.tape.specs.Shortening.{Shortened}
 use Rattle.tape.specs.Lent.{in_place, AllIn, Carries, Stand, Stays}
-use Rattle.carried.proofs.Shorter.{carried-inner}
+use Rattle.carried.proofs.Shorter.{inside-itself, carried-inner}
 use Rattle.tape.proofs.Shortened.{shortened-carried}
 use Rattle.tape.proofs.Worked.{in_parts}
 use Rattle.tape.proofs.Slices.{slice-later}

@@ -11,6 +11,7 @@ pub mod Renaming
 pub mod Shortened
 pub mod Carrying
 pub mod Packed
+pub mod Walking
 pub mod Putting
 pub mod Placing
 pub mod Starting

@@ -1,19 +1,17 @@
--- A word in memory, put together from its parts, and whether it is listed.
+-- A word in memory, put together from its parts, and whether it is listed; two parts of a tape.
 use mathlib.Core.Path.{◌≡◌, refl, sym, ap₂, ◌∙◌}
-use mathlib.Core.Bool.{Bool, true, false, cond, not, ◌&&◌, true≢false}
-use mathlib.Core.List.{List}
-use Prim.Native.Nat.{ℕ, ◌+◌, ◌*◌, ◌≤◌, ◌<◌}
+use mathlib.Core.Bool.{Bool, true, false, cond, not, true≢false}
+use Prim.Native.Nat.{ℕ, ◌+◌, ◌*◌, ◌/◌, ◌%◌, ◌≤◌, ◌<◌}
 use native.Mathlib.Omega.{arith}
 use borrow.Author.Tests.{lt-ltb, le-ltb}
 use lib.Dec.{ltb, leb}
-use lib.ListN.{get_or}
 use Rattle.sheet.specs.declared.Comparison.{Comparison}
 use Rattle.sheet.specs.declared.Comparison.TheVariants.{AtMost, LessThan}
 use Rattle.sheet.specs.declared.Record.{Record}
 use Rattle.sheet.specs.declared.Record.TheVariants.{Constant, X, Y, Z, Sum, Difference, Product, Square, Face, Both, Either, Complement}
-use Rattle.sheet.specs.Operands.{sort_of, first_of, second_of}
-use Rattle.carried.specs.Words.{word, own_word, is_logical}
-use Rattle.tape.specs.Memory.{number_in, first_in, second_in, kind_in, comparison_by, record_by}
+use Rattle.sheet.specs.Operands.{first_of, second_of}
+use Rattle.carried.specs.Words.{word}
+use Rattle.tape.specs.Memory.{comparison_by, record_by}
 use Rattle.tape.specs.Lent.{is_constant}
 use Rattle.tape.specs.Listing.{face_kind, kind_of, Packs, is_listed, listed_of}
 
@@ -62,13 +60,18 @@ module _ (k a b n : ℕ) (ha : a < 256) (hb : b < 256) (hn : n < 256) where
   abbrev whole : ℕ
   whole = k * 16777216 + b * 65536 + a * 256 + n
 
-  pub parts : (kind_in whole ≡ k) × (number_in whole ≡ n) × (first_in whole ≡ a) × (second_in whole ≡ b)
-  parts = (omega arith, omega arith, omega arith, omega arith)
-
   pub packs : (r : Record) → k ≡ kind_of r → a ≡ first_of r → b ≡ second_of r → Packs whole n r
   packs r ek ea eb =
-      let kind = parts.0 ∙ ek in
-      record { kind = kind; what = λ e. ap₂ word parts.1 ((λ i. record_by (kind i) ((parts.2 ∙ ea) i) ((parts.3 ∙ eb) i)) ∙ own-record r e) }
+      let number : whole % 256 ≡ n = omega arith in
+      let rest : whole / 256 ≡ k * 65536 + b * 256 + a = omega arith in
+      let first : whole / 256 % 256 ≡ a = rw rest (let z : (k * 65536 + b * 256 + a) % 256 ≡ a = omega arith in z) in
+      let upper : whole / 65536 ≡ k * 256 + b = omega arith in
+      let second : whole / 65536 % 256 ≡ b = rw upper (let z : (k * 256 + b) % 256 ≡ b = omega arith in z) in
+      let kind : whole / 16777216 ≡ k = omega arith in
+      record {
+        kind = kind ∙ ek;
+        what = λ e. ap₂ word number ((λ i. record_by ((kind ∙ ek) i) ((first ∙ ea) i) ((second ∙ eb) i)) ∙ own-record r e);
+      }
 
 -- ---- whether a word is listed
 pub listed-logical : (logical : Bool) (kind : ℕ) → logical ≡ true → leb 15 kind ≡ is_listed logical kind
@@ -84,43 +87,32 @@ face-listed : (logical : Bool) (by : Comparison) → is_listed logical (face_kin
 face-listed logical AtMost = refl
 face-listed logical LessThan = refl
 
--- the same of a record: whether its word is listed
-abbrev chooses : Bool → Record → Bool
-chooses logical r = cond logical (is_logical (sort_of r)) (not (is_logical (sort_of r)) && not (is_constant r))
+pub kind-listed : (logical : Bool) (n : ℕ) (r : Record) → is_listed logical (kind_of r) ≡ listed_of logical (word n r)
+kind-listed logical n (Constant c) = refl
+kind-listed logical n X = refl
+kind-listed logical n Y = refl
+kind-listed logical n Z = refl
+kind-listed logical n (Sum a b) = refl
+kind-listed logical n (Difference a b) = refl
+kind-listed logical n (Product a b) = refl
+kind-listed logical n (Square a) = refl
+kind-listed logical n (Face by a) = face-listed logical by
+kind-listed logical n (Both a b) = refl
+kind-listed logical n (Either a b) = refl
+kind-listed logical n (Complement a) = refl
 
-by_kind : (logical : Bool) (r : Record) → is_listed logical (kind_of r) ≡ chooses logical r
-by_kind logical (Constant c) = refl
-by_kind logical X = refl
-by_kind logical Y = refl
-by_kind logical Z = refl
-by_kind logical (Sum a b) = refl
-by_kind logical (Difference a b) = refl
-by_kind logical (Product a b) = refl
-by_kind logical (Square a) = refl
-by_kind logical (Face by a) = face-listed logical by
-by_kind logical (Both a b) = refl
-by_kind logical (Either a b) = refl
-by_kind logical (Complement a) = refl
-
-no-constant : (logical : Bool) (r : Record) → chooses logical r ≡ true → is_constant r ≡ false
-no-constant true (Constant c) e = absurd (true≢false (sym e))
-no-constant false (Constant c) e = absurd (true≢false (sym e))
-no-constant logical X e = refl
-no-constant logical Y e = refl
-no-constant logical Z e = refl
-no-constant logical (Sum a b) e = refl
-no-constant logical (Difference a b) e = refl
-no-constant logical (Product a b) e = refl
-no-constant logical (Square a) e = refl
-no-constant logical (Face by a) e = refl
-no-constant logical (Both a b) e = refl
-no-constant logical (Either a b) e = refl
-no-constant logical (Complement a) e = refl
-
-module _ (rs : List Record) (logical : Bool) (n : ℕ) where
-  pub kind-listed : is_listed logical (kind_of (get_or rs n X)) ≡ listed_of rs logical (own_word rs n)
-  kind-listed = by_kind logical (get_or rs n X)
-
-  -- a word that is listed is not a constant's
-  pub listed-word : listed_of rs logical (own_word rs n) ≡ true → is_constant (get_or rs n X) ≡ false
-  listed-word = no-constant logical (get_or rs n X)
+-- a word that is listed is not a constant's
+pub listed-word : (logical : Bool) (n : ℕ) (r : Record) → listed_of logical (word n r) ≡ true → is_constant r ≡ false
+listed-word true n (Constant c) e = absurd (true≢false (sym e))
+listed-word false n (Constant c) e = absurd (true≢false (sym e))
+listed-word logical n X e = refl
+listed-word logical n Y e = refl
+listed-word logical n Z e = refl
+listed-word logical n (Sum a b) e = refl
+listed-word logical n (Difference a b) e = refl
+listed-word logical n (Product a b) e = refl
+listed-word logical n (Square a) e = refl
+listed-word logical n (Face by a) e = refl
+listed-word logical n (Both a b) e = refl
+listed-word logical n (Either a b) e = refl
+listed-word logical n (Complement a) e = refl

@@ -1,13 +1,13 @@
 -- The entries of constants are put in place, as the loop meets it; then the entries of all records stand as they are lent.
 use mathlib.Core.Path.{◌≡◌, refl, sym, ap, ◌∙◌}
-use mathlib.Core.Bool.{true, true≢false}
+use mathlib.Core.Bool.{true, false, true≢false}
 use mathlib.Core.List.{List}
 use Prim.Native.Nat.{ℕ, ◌+◌, ◌≤◌, ◌<◌, ◌^◌}
 use native.Mathlib.Omega.{arith}
-use borrow.Author.Tests.{eqb-true, eqb-false}
-use lib.Dec.{eqb}
+use borrow.Author.Tests.{eqb-true, eqb-false, ltb-true, ltb-false}
+use lib.Dec.{eqb, ltb}
 use lib.IntN.{ℤ, pos, nat_abs}
-use lib.ListN.{length, get_or, set, length-set}
+use lib.ListN.{length, get_or, set, length-set, get_or-eq_default}
 use lib.Seq.{get_or-set_same, get_or-set_other}
 use mir.Syntax.{w32, w64}
 use mir.Val.{SFits, to_z, of_z}
@@ -22,14 +22,13 @@ use Rattle.sheet.specs.Table.{row_at}
 use Rattle.sheet.specs.Records.{records_of}
 use Rattle.sheet.specs.Operands.{sort_of}
 use Rattle.records.specs.Offsets.{Offsets}
-use Rattle.records.proofs.Walking.{Walking, walking_start, walking-end, walking-few, walking-next, walking-record}
 use Rattle.colour.specs.Held.{Held, held_at, state_by}
 use Rattle.colour.specs.declared.State.TheVariants.{Mixed}
 use Rattle.carried.specs.Words.{is_logical}
 use Rattle.tape.specs.Listing.{start_of, Placed}
 use Rattle.tape.specs.Memory.{state_in}
-use Rattle.tape.specs.Lent.{Lent}
-use Rattle.tape.proofs.Worked.{constant-few}
+use Rattle.tape.specs.Lent.{is_constant, Lent}
+use Rattle.tape.proofs.Walking.{Walking, walking_start, walking-end, walking-few, walking-next, walking-record}
 
 -- ---- what a record's bounds begin as
 pub constant-arm : (r : Record) (c : ℤ) → r ≡ Constant c → SFits w32 c
@@ -134,6 +133,9 @@ logical-start (Both a b) e = refl
 logical-start (Either a b) e = refl
 logical-start (Complement a) e = refl
 
+not_there : (rs : List Record) (a : ℕ) (c : ℤ) → length rs ≤ a → get_or rs a X ≡ Constant c → ⊥
+not_there rs a c h e = true≢false (sym (ap is_constant (sym (get_or-eq_default rs X h) ∙ e)))
+
 module _ (rs : List Record) (low high : List ℤ) (classes faces : List ℕ) (p : Placed rs low high classes) where
   begins : (a : ℕ) → a < length rs → held_at low high a ≡ only (start_of (get_or rs a X))
   begins a h = rw (p.lows a h, p.highs a h)
@@ -148,5 +150,8 @@ module _ (rs : List Record) (low high : List ℤ) (classes faces : List ℕ) (p 
         places = record { held = p.held; classes-long = p.long; faces-long = f };
         bounds = λ a h s. begins a h ∙ ap only (logical-start (get_or rs a X) s);
         states = λ a h s. mixed a h;
-        constants = λ a c e. begins a (constant-few rs a c e) ∙ ap (λ (r : Record). only (start_of r)) e;
+        constants = λ a c e.
+            by-test (ltb a (length rs))
+            (λ t. begins a (ltb-true a (length rs) t) ∙ ap (λ (r : Record). only (start_of r)) e)
+            (λ t. absurd (not_there rs a c (ltb-false a (length rs) t) e));
       }

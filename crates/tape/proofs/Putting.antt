@@ -7,22 +7,19 @@ use native.Mathlib.Numerals.{add-one}
 use native.Mathlib.Omega.{arith}
 use borrow.Author.Tests.{eqb-true, eqb-false}
 use lib.Dec.{eqb}
-use lib.ListN.{length, get_or, set, length-set, length-append}
-use lib.Seq.{slice, slice_empty, take-set-le}
+use lib.ListN.{length, get_or, take, drop, set, length-set, length-append}
+use lib.Seq.{slice, slice_empty, take-set-le, take-suc-set, drop-append-le, length-take-le}
 use Rattle.integers.proofs.Order.{by-test}
 use Rattle.sheet.specs.declared.Record.{Record}
-use Rattle.sheet.specs.declared.Record.TheVariants.{X}
 use Rattle.sheet.specs.declared.Row.TheVariants.{Known}
 use Rattle.sheet.specs.Table.{row_at}
 use Rattle.sheet.specs.Records.{records_of}
 use Rattle.records.specs.Offsets.{Offsets}
-use Rattle.records.proofs.Walking.{Walking, walking_start, walking-end, walking-next, walking-record}
 use Rattle.carried.specs.Words.{Word, word, own_word, chosen}
 use Rattle.tape.specs.Memory.{word_in}
-use Rattle.tape.specs.Lent.{is_constant}
-use Rattle.tape.specs.Listing.{kind_of, Packs, is_listed, place_after, tape_after, listed_of, Listed}
-use Rattle.tape.proofs.Slices.{slice-more}
+use Rattle.tape.specs.Listing.{Packs, is_listed, place_after, tape_after, listed_of, Listed}
 use Rattle.tape.proofs.Packed.{kind-listed, listed-word}
+use Rattle.tape.proofs.Walking.{Walking, walking_start, walking-end, walking-next, walking-record}
 
 -- ---- one word
 pub put-room : (tape : List ℕ) (to : ℕ) (listed : Bool) → listed ≡ true → place_after listed to ≤ length tape → to < length tape
@@ -51,7 +48,10 @@ module _ (p : Word → Bool) (rs : List Record) where
 -- ---- words at from..to, and one more
 module _ (ws : List Word) (from : ℕ) (tape₀ tape : List ℕ) (to : ℕ) (l : Listed ws from tape₀ tape to) where
   cut : (w : ℕ) → to < length tape → slice from (to + 1) (set tape to w) ≡ slice from to tape ++ w ∷ []
-  cut w room = ap (λ (k : ℕ). slice from k (set tape to w)) (add-one to) ∙ slice-more from to tape w (omega (arith, l.ends)) room
+  cut w room =
+      ap (λ (k : ℕ). slice from k (set tape to w)) (add-one to)
+      ∙ ap (drop from) (take-suc-set tape to w room)
+      ∙ drop-append-le from (take to tape) (w ∷ []) (omega (arith, l.ends, length-take-le to tape (omega arith)))
 
   longer : (w : ℕ) (x : Word) → to < length tape → word_in w ≡ x → Listed (ws ++ x ∷ []) from tape₀ (set tape to w) (to + 1)
   longer w x room e =
@@ -71,7 +71,7 @@ module _ (s offsets : List ℕ) (count : ℕ) (tape₀ : List ℕ) (from : ℕ) 
   rs = records_of s
 
   abbrev words : ℕ → List Word
-  words n = chosen (listed_of rs logical) rs n
+  words n = chosen (listed_of logical) rs n
 
   pub record Putting (tape : List ℕ) (to n : ℕ) : Type 0 where
     pub walk : Walking s offsets count n
@@ -89,20 +89,20 @@ module _ (s offsets : List ℕ) (count : ℕ) (tape₀ : List ℕ) (from : ℕ) 
 
     -- record n is r, and w is its word
     module _ (left : n < count) (r : Record) (row : row_at s (get_or offsets n 0) ≡ Known r) (w : ℕ) (is : Packs w n r) (b : Bool) (t : b ≡ is_listed logical (w / 16777216)) where
-      this : get_or rs n X ≡ r
-      this = walking-record s offsets count n p.walk left r row
+      own : own_word rs n ≡ word n r
+      own = ap (word n) (walking-record s offsets count n p.walk left r row)
 
-      test : b ≡ listed_of rs logical (own_word rs n)
-      test = t ∙ ap (is_listed logical) (is.kind ∙ ap kind_of (sym this)) ∙ kind-listed rs logical n
+      test : b ≡ listed_of logical (own_word rs n)
+      test = t ∙ ap (is_listed logical) is.kind ∙ kind-listed logical n r ∙ ap (listed_of logical) (sym own)
 
       yes : b ≡ true → word_in w ≡ own_word rs n
-      yes e = is.what (ap is_constant (sym this) ∙ listed-word rs logical n (sym test ∙ e)) ∙ ap (word n) (sym this)
+      yes e = is.what (listed-word logical n r (ap (listed_of logical) (sym own) ∙ sym test ∙ e)) ∙ sym own
 
       grown : words (n + 1) ≡ words n ++ cond b (own_word rs n ∷ []) []
-      grown = rw test (chosen-next (listed_of rs logical) rs n)
+      grown = rw test (chosen-next (listed_of logical) rs n)
 
       most : length (words (n + 1)) ≤ length (words count)
-      most = chosen_more (listed_of rs logical) rs (n + 1) count (omega arith)
+      most = chosen_more (listed_of logical) rs (n + 1) count (omega arith)
 
       pub putting-room : place_after b to ≤ length tape
       putting-room =

@@ -1,11 +1,11 @@
 -- Words take twins for operands one after the other, as the loop meets it.
 use mathlib.Core.Path.{◌≡◌, refl, sym, ap, ◌∙◌}
-use mathlib.Core.List.{List, [], ◌∷◌, ◌++◌, map, map-append, append_assoc, append-nil}
+use mathlib.Core.List.{List, [], ◌∷◌, ◌++◌, map, append_assoc, append-nil}
 use Prim.Native.Nat.{ℕ, suc, ◌+◌, ◌-◌, ◌%◌, ◌≤◌, ◌<◌}
 use native.Mathlib.Omega.{arith}
 use borrow.Author.Tests.{eqb-true, eqb-false}
 use lib.Dec.{eqb}
-use lib.ListN.{length, get_or, drop, set, length-set}
+use lib.ListN.{length, get_or, take, drop, set, length-set}
 use lib.Seq.{slice, slice_empty, slice-cons, drop-set-lt, get_or-drop, get_or-set_same, get_or-set_other}
 use Rattle.integers.proofs.Order.{by-test}
 use Rattle.colour.specs.declared.State.{State}
@@ -13,6 +13,10 @@ use Rattle.carried.specs.Words.{Word, word, put, twin_by, renamed, twin_after, r
 use Rattle.tape.specs.Memory.{number_in, record_in, word_in, state_in}
 use Rattle.tape.specs.Shortening.{twin_in, Moves, Moved}
 use Rattle.tape.proofs.Slices.{slice-more}
+
+map_more : (xs : List ℕ) (v : ℕ) → map word_in (xs ++ v ∷ []) ≡ map word_in xs ++ word_in v ∷ []
+map_more [] v = refl
+map_more (x ∷ xs) v = ap (λ (l : List Word). word_in x ∷ l) (map_more xs v)
 
 same_source : (f i : ℕ) (l m : List ℕ) → drop f l ≡ drop f m → f ≤ i → get_or l i 0 ≡ get_or m i 0
 same_source f i l m e h =
@@ -76,7 +80,7 @@ module _ (tape₀ : List ℕ) (from to down : ℕ) (classes faces found₀ : Lis
           words =
               ap (λ (x : ℕ). map word_in (slice (from - down) x (set tape (i - down) r)) ++ rename_all s (twin_in (set found (w % 256) t)) (left (i + 1))) place
               ∙ ap (λ (l : List ℕ). map word_in l ++ rename_all s (twin_in (set found (w % 256) t)) (left (i + 1))) (slice-more (from - down) (i - down) tape r (omega (arith, m.room, k.least)) inside)
-              ∙ ap (λ (l : List Word). l ++ rename_all s (twin_in (set found (w % 256) t)) (left (i + 1))) (map-append word_in (slice (from - down) (i - down) tape) (r ∷ []))
+              ∙ ap (λ (l : List Word). l ++ rename_all s (twin_in (set found (w % 256) t)) (left (i + 1))) (map_more (slice (from - down) (i - down) tape) r)
               ∙ append_assoc done (word_in r ∷ []) (rename_all s (twin_in (set found (w % 256) t)) (left (i + 1)))
               ∙ ap (λ (x : Word). done ++ x ∷ rename_all s (twin_in (set found (w % 256) t)) (left (i + 1))) n
               ∙ ap (λ (f : ℕ → ℕ). done ++ word (number_in w) (renamed (twin_in found) (record_in w)) ∷ rename_all s f (left (i + 1))) after

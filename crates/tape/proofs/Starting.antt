@@ -18,7 +18,7 @@ use Rattle.sheet.specs.Check.{check_of}
 use Rattle.sheet.proofs.Good.{check-parts, sorted-good, records-few, good-some}
 use Rattle.sheet.proofs.Unmet.{none-unmet}
 use Rattle.cube.specs.declared.Cube.{Cube}
-use Rattle.carried.specs.Words.{Word, Carried, own_word, chosen, is_logical, first_words}
+use Rattle.carried.specs.Words.{Word, Carried, word, own_word, chosen, is_logical, is_worked, first_words}
 use Rattle.carried.proofs.First.{first-carried}
 use Rattle.tape.specs.Memory.{word_in, words_in}
 use Rattle.tape.specs.Working.{OfSort}
@@ -32,12 +32,16 @@ most-one : {A : Type 0} (b : Bool) (x : A) → length (cond b (x ∷ []) []) ≤
 most-one true x = omega arith
 most-one false x = omega arith
 
+listed-sort : (logical : Bool) (n : ℕ) (r : Record) → listed_of logical (word n r) ≡ true → OfSort logical r
+listed-sort true n r e = e
+listed-sort false n r e = by-test (is_logical (sort_of r)) (λ t. absurd (true≢false (sym (rw t at e)))) (λ t. t)
+
 module _ (rs : List Record) where
   abbrev listed : Bool → ℕ → List Word
-  listed logical n = chosen (listed_of rs logical) rs n
+  listed logical n = chosen (listed_of logical) rs n
 
   abbrev one : Bool → ℕ → List Word
-  one logical n = cond (listed_of rs logical (own_word rs n)) (own_word rs n ∷ []) []
+  one logical n = cond (listed_of logical (own_word rs n)) (own_word rs n ∷ []) []
 
   -- a record is in one list at most
   one-most : (n : ℕ) → length (one false n) + length (one true n) ≤ 1
@@ -52,10 +56,6 @@ module _ (rs : List Record) where
   both-few (suc n) = omega (arith, both-few n, one-most n, length-append (listed false n) (one false n), length-append (listed true n) (one true n))
 
   -- and each list has records of its sort
-  listed-sort : (logical : Bool) (n : ℕ) → listed_of rs logical (own_word rs n) ≡ true → OfSort logical (get_or rs n X)
-  listed-sort true n e = e
-  listed-sort false n e = by-test (is_logical (sort_of (get_or rs n X))) (λ t. absurd (true≢false (sym (rw t at e)))) (λ t. t)
-
   in-append : (logical : Bool) (ws vs : List Word) → AllIn rs logical ws → AllIn rs logical vs → AllIn rs logical (ws ++ vs)
   in-append logical [] vs t u = u
   in-append logical (w ∷ ws) vs t u = (t.0, t.1, t.2, in-append logical ws vs t.3 u)
@@ -65,9 +65,15 @@ module _ (rs : List Record) where
   listed_in logical zero h = tt
   listed_in logical (suc n) h =
       in-append logical (listed logical n) (one logical n) (listed_in logical n (omega arith))
-      (by-test (listed_of rs logical (own_word rs n))
-      (λ t. let s = listed-sort logical n t in rw t (s, s, omega arith, tt))
+      (by-test (listed_of logical (own_word rs n))
+      (λ t. let s = listed-sort logical n (get_or rs n X) t in rw t (s, s, omega arith, tt))
       (λ t. rw t tt))
+
+  -- where constants are in place
+  works-are : (n : ℕ) → listed false n ≡ chosen (is_worked (in_place rs)) rs n
+  unfolding chosen
+  works-are zero = refl
+  works-are (suc n) = ap (λ (l : List Word). l ++ one false n) (works-are n)
 
 -- the last record
 last-is : (r : Record) (rs : List Record) → last_sort (r ∷ rs) ≡ sort_of (get_or (r ∷ rs) (length rs) X)
@@ -104,7 +110,7 @@ module _ (s : List ℕ) (count : ℕ) (good : check_of s ≡ Done count) where
       first-carried rs q (none-unmet rs sorted.1) (in_place rs) some (last-logical rs sorted.2 some)
 
   abbrev ws : Bool → List Word
-  ws logical = chosen (listed_of rs logical) rs count
+  ws logical = chosen (listed_of logical) rs count
 
   few : length (ws false) + length (ws true) ≤ 256
   few = omega (arith, both-few rs count, start-count, records-few s)
@@ -130,7 +136,7 @@ module _ (s : List ℕ) (count : ℕ) (good : check_of s ≡ Done count) where
             ap (map word_in) (slice-split from mid to tape₂ (omega (arith, l.ends)) (omega (arith, k.ends)) (omega (arith, start-states, k.ends, k.same)))
             ∙ map-append word_in (slice from mid tape₂) (slice mid to tape₂)
             ∙ ap₂ (λ (x y : List Word). x ++ y) first k.words
-            ∙ ap (λ (n : ℕ). chosen (listed_of rs false) rs n ++ chosen (listed_of rs true) rs n) start-count
+            ∙ ap₂ (λ (x : List Word) (n : ℕ). x ++ chosen (listed_of true) rs n) (works-are rs count ∙ ap (chosen (is_worked (in_place rs)) rs) start-count) start-count
 
         carries : (q : Cube) → Carries rs q tape₂ (record { from = from; mid = mid; to = to; solid = count - 1 })
         carries q =

@@ -15,7 +15,6 @@ use Rattle.carried.specs.Words.{word, twin_by, renamed}
 use Rattle.tape.specs.Memory.{number_in, first_in, second_in, kind_in, record_by, record_in, word_in, state_in}
 use Rattle.tape.specs.Shortening.{twin_in}
 use Rattle.tape.proofs.ByKind.{low-kinds, record-both, record-either, record-complement}
-use Rattle.tape.proofs.Packed.{parts}
 use Rattle.tape.proofs.Slices.{get_d_any}
 
 -- ---- what the bytes say
@@ -25,13 +24,13 @@ open-state c f h k =
     by-test (eqb c 2) (λ t. (rw (h, k, t), rw (h, k, t)))
     (λ t. by-test (eqb c 3) (λ u. (rw (h, k, t, u), rw (h, k, t, u))) (λ u. (rw (h, k, t, u), rw (h, k, t, u))))
 
-in-class : (c f : ℕ) → is_in (state_by c f) ≡ eqb c 1
+is-in : (c f : ℕ) → is_in (state_by c f) ≡ eqb c 1
 unfolding state_by
-in-class c f = by-test (eqb c 0) (λ t. rw (eqb-true c 0 t)) (λ t. by-test (eqb c 1) (λ u. rw (t, u)) (λ u. (open-state c f t u).1 ∙ sym u))
+is-in c f = by-test (eqb c 0) (λ t. rw (eqb-true c 0 t)) (λ t. by-test (eqb c 1) (λ u. rw (t, u)) (λ u. (open-state c f t u).1 ∙ sym u))
 
-out-class : (c f : ℕ) → is_out (state_by c f) ≡ eqb c 0
+is-out : (c f : ℕ) → is_out (state_by c f) ≡ eqb c 0
 unfolding state_by
-out-class c f = by-test (eqb c 0) (λ t. rw t) (λ t. by-test (eqb c 1) (λ u. rw (t, u)) (λ u. (open-state c f t u).0 ∙ sym t))
+is-out c f = by-test (eqb c 0) (λ t. rw t) (λ t. by-test (eqb c 1) (λ u. rw (t, u)) (λ u. (open-state c f t u).0 ∙ sym t))
 
 module _ (classes faces twins : List ℕ) (w : ℕ) (long : length twins ≡ 256) where
   abbrev a : ℕ
@@ -52,14 +51,14 @@ module _ (classes faces twins : List ℕ) (w : ℕ) (long : length twins ≡ 256
   both_is : kind_in w ≡ 17 → it ≡ cond (eqb (get_or classes a 0) 1) (twin_in twins b) (cond (eqb (get_or classes b 0) 1) (twin_in twins a) n)
   both_is k =
       ap (twin_by (state_in classes faces) (twin_in twins) n) (record-both (kind_in w) a b k)
-      ∙ ap (λ (x : Bool). cond x (twin_in twins b) (cond (is_in (state_in classes faces b)) (twin_in twins a) n)) (in-class (get_or classes a 0) (get_or faces a 0))
-      ∙ ap (λ (x : Bool). cond (eqb (get_or classes a 0) 1) (twin_in twins b) (cond x (twin_in twins a) n)) (in-class (get_or classes b 0) (get_or faces b 0))
+      ∙ ap (λ (x : Bool). cond x (twin_in twins b) (cond (is_in (state_in classes faces b)) (twin_in twins a) n)) (is-in (get_or classes a 0) (get_or faces a 0))
+      ∙ ap (λ (x : Bool). cond (eqb (get_or classes a 0) 1) (twin_in twins b) (cond x (twin_in twins a) n)) (is-in (get_or classes b 0) (get_or faces b 0))
 
   either_is : kind_in w ≡ 18 → it ≡ cond (eqb (get_or classes a 0) 0) (twin_in twins b) (cond (eqb (get_or classes b 0) 0) (twin_in twins a) n)
   either_is k =
       ap (twin_by (state_in classes faces) (twin_in twins) n) (record-either (kind_in w) a b k)
-      ∙ ap (λ (x : Bool). cond x (twin_in twins b) (cond (is_out (state_in classes faces b)) (twin_in twins a) n)) (out-class (get_or classes a 0) (get_or faces a 0))
-      ∙ ap (λ (x : Bool). cond (eqb (get_or classes a 0) 0) (twin_in twins b) (cond x (twin_in twins a) n)) (out-class (get_or classes b 0) (get_or faces b 0))
+      ∙ ap (λ (x : Bool). cond x (twin_in twins b) (cond (is_out (state_in classes faces b)) (twin_in twins a) n)) (is-out (get_or classes a 0) (get_or faces a 0))
+      ∙ ap (λ (x : Bool). cond (eqb (get_or classes a 0) 0) (twin_in twins b) (cond x (twin_in twins a) n)) (is-out (get_or classes b 0) (get_or faces b 0))
 
   pub twin-1 : kind_in w ≡ 17 → get_or classes a 0 ≡ 1 → get_or twins b 0 ≡ it
   twin-1 k h = read b (omega arith) ∙ sym (both_is k ∙ rw (eq-eqb _ _ h))
@@ -108,10 +107,14 @@ Renamed w twins r = word_in r ≡ word (number_in w) (renamed (twin_in twins) (r
 pub same_word : (w : ℕ) (twins : List ℕ) → kind_in w < 17 → Renamed w twins w
 same_word w twins l = ap (word (number_in w)) (sym (renamed_low (twin_in twins) (kind_in w) (first_in w) (second_in w) l))
 
+parts : (k y x n : ℕ) → y < 256 → x < 256 → n < 256 → (kind_in (k * 16777216 + y * 65536 + x * 256 + n) ≡ k) × (number_in (k * 16777216 + y * 65536 + x * 256 + n) ≡ n)
+    × (first_in (k * 16777216 + y * 65536 + x * 256 + n) ≡ x) × (second_in (k * 16777216 + y * 65536 + x * 256 + n) ≡ y)
+parts k y x n hy hx hn = (omega arith, omega arith, omega arith, omega arith)
+
 pub new_word : (w : ℕ) (twins : List ℕ) → length twins ≡ 256 → (kind_in w < 17 → ⊥) → get_or twins (first_in w) 0 < 256 → get_or twins (second_in w) 0 < 256
     → Renamed w twins (w / 16777216 * 16777216 + get_or twins (second_in w) 0 * 65536 + get_or twins (first_in w) 0 * 256 + w % 256)
 new_word w twins long l hx hy =
-    let p = parts (kind_in w) (get_or twins (first_in w) 0) (get_or twins (second_in w) 0) (number_in w) hx hy (omega arith) in
+    let p = parts (kind_in w) (get_or twins (second_in w) 0) (get_or twins (first_in w) 0) (number_in w) hy hx (omega arith) in
     let x : get_or twins (first_in w) 0 ≡ twin_in twins (first_in w) = get_d_any twins (first_in w) 0 (first_in w) (omega (arith, long)) in
     let y : get_or twins (second_in w) 0 ≡ twin_in twins (second_in w) = get_d_any twins (second_in w) 0 (second_in w) (omega (arith, long)) in
     (λ i. word (p.1 i) (record_by (p.0 i) ((p.2 ∙ x) i) ((p.3 ∙ y) i)))

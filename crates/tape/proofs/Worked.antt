@@ -1,7 +1,7 @@
 -- Working a tape out over a cube gives its records their entries there, and leaves all places as they are to be.
 use mathlib.Core.Path.{◌≡◌, refl, sym, ap, ◌∙◌}
 use mathlib.Core.Bool.{Bool, true, false, true≢false}
-use mathlib.Core.List.{List, [], ◌∷◌, ◌++◌, map, map-append}
+use mathlib.Core.List.{List, [], ◌∷◌, ◌++◌, map}
 use Prim.Native.Nat.{ℕ, zero, suc, ◌<◌}
 use native.Mathlib.Omega.{arith}
 use borrow.Author.Tests.{eqb-true}
@@ -19,7 +19,6 @@ use Rattle.sheet.specs.Operands.{sort_of}
 use Rattle.sheet.proofs.Along.{entry_at}
 use Rattle.cube.specs.declared.Cube.{Cube}
 use Rattle.cube.specs.Points.{CubeInside}
-use Rattle.cube.proofs.Cubes.{inside-itself}
 use Rattle.colour.specs.declared.State.{State}
 use Rattle.colour.specs.declared.State.TheVariants.{Mixed}
 use Rattle.colour.specs.Bounds.{bounds_of}
@@ -28,6 +27,7 @@ use Rattle.colour.specs.Entries.{Entry, blank, entry_with, entry_of, entries, fi
 use Rattle.colour.specs.Held.{held_at}
 use Rattle.colour.proofs.Smaller.{none-keep}
 use Rattle.carried.specs.Words.{over, Word, entry_by, AllTrue, more, Closed, listed, Carried, put, is_logical}
+use Rattle.carried.proofs.Shorter.{inside-itself}
 use Rattle.carried.proofs.Running.{right-entry, right-more, run-right, listed-old}
 use Rattle.tape.specs.declared.Tape.{Tape}
 use Rattle.tape.specs.Memory.{word_in, words_in, state_in}
@@ -37,6 +37,10 @@ use Rattle.tape.proofs.Phases.{both, Worked, Judged, one-bounds, run-both}
 use Rattle.tape.proofs.Slices.{slice-split}
 
 -- ---- two parts of a tape
+map-append : (xs ys : List ℕ) → map word_in (xs ++ ys) ≡ map word_in xs ++ map word_in ys
+map-append [] ys = refl
+map-append (x ∷ xs) ys = ap (λ (l : List Word). word_in x ∷ l) (map-append xs ys)
+
 all_first : (rs : List Record) (q : Cube) (ws vs : List Word) → AllTrue rs q (ws ++ vs) → AllTrue rs q ws
 all_first rs q [] vs t = tt
 all_first rs q (w ∷ ws) vs t = (t.0, all_first rs q ws vs t.1)
@@ -48,7 +52,7 @@ closed-first (w ∷ ws) vs known c = (c.0, closed-first ws vs (more known w.numb
 pub in_parts : (rs : List Record) (q : Cube) (tape : List ℕ) (t : Tape) → Carries rs q tape t → words_in tape t.from t.to ≡ words_in tape t.from t.mid ++ words_in tape t.mid t.to
 in_parts rs q tape t carries =
     let p = carries.parts in
-    ap (map word_in) (slice-split t.from t.mid t.to tape p.first p.second p.among) ∙ map-append word_in (slice t.from t.mid tape) (slice t.mid t.to tape)
+    ap (map word_in) (slice-split t.from t.mid t.to tape p.first p.second p.among) ∙ map-append (slice t.from t.mid tape) (slice t.mid t.to tape)
 
 -- the places after the first loop
 pub places-filled : (rs : List Record) (low₀ high₀ low high : List ℤ) (classes faces : List ℕ) → Lent rs low₀ high₀ classes faces → (q : Cube) (ws : List Word) → Filled q ws low₀ high₀ low high
@@ -86,7 +90,7 @@ constant-is (Either a b) e f = absurd (true≢false (sym e))
 constant-is (Complement a) e f = absurd (true≢false (sym e))
 
 -- it is a record of the sheet
-pub constant-few : (rs : List Record) (a : ℕ) (c : ℤ) → get_or rs a X ≡ Constant c → a < length rs
+constant-few : (rs : List Record) (a : ℕ) (c : ℤ) → get_or rs a X ≡ Constant c → a < length rs
 constant-few [] a c e = absurd (true≢false (sym (ap is_constant e)))
 constant-few (r ∷ rs) zero c e = omega arith
 constant-few (r ∷ rs) (suc a) c e = omega (arith, constant-few rs a c e)

@@ -1,13 +1,14 @@
 -- The words of a sheet's own records, as they are listed in memory. Only inner contracts cite this.
-use Rattle.std.specs.Prelude.{ℕ, ◌+◌, ◌<◌, ◌≡◌, Bool, false, cond, ◌&&◌, List, ltb, leb, ℤ, pos, length, get_or, take, set}
+use Rattle.std.specs.Prelude.{ℕ, ◌+◌, ◌<◌, ◌≡◌, Bool, false, cond, not, ◌&&◌, List, ltb, leb, ℤ, pos, length, get_or, take, set}
 use Rattle.sheet.specs.declared.Comparison.{Comparison}
 use Rattle.sheet.specs.declared.Comparison.TheVariants.{AtMost, LessThan}
 use Rattle.sheet.specs.declared.Record.{Record}
 use Rattle.sheet.specs.declared.Record.TheVariants.{Constant, X, Y, Z, Sum, Difference, Product, Square, Face, Both, Either, Complement}
+use Rattle.sheet.specs.Operands.{sort_of}
 use Rattle.colour.specs.Held.{Held}
-use Rattle.carried.specs.Words.{Word, word, is_worked, is_stated}
+use Rattle.carried.specs.Words.{Word, word, is_logical}
 use Rattle.tape.specs.Memory.{kind_in, word_in, words_in}
-use Rattle.tape.specs.Lent.{is_constant, in_place}
+use Rattle.tape.specs.Lent.{is_constant}
 
 -- the kind of a face's word
 abbrev pub face_kind : Comparison → ℕ
@@ -44,8 +45,8 @@ abbrev pub tape_after : Bool → List ℕ → ℕ → ℕ → List ℕ
 tape_after listed tape to w = cond listed (set tape to w) tape
 
 -- the words of logical records, or of arithmetic ones but constants
-abbrev pub listed_of : List Record → Bool → Word → Bool
-listed_of rs logical w = cond logical (is_stated w) (is_worked (in_place rs) w)
+abbrev pub listed_of : Bool → Word → Bool
+listed_of logical w = cond logical (is_logical (sort_of w.what)) (not (is_logical (sort_of w.what)) && not (is_constant w.what))
 
 -- what `list` leaves: the words at from..r, and what is before them unchanged
 pub record Listed (ws : List Word) (from : ℕ) (tape₀ tape : List ℕ) (r : ℕ) : Type 0 where

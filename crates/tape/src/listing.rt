@@ -76,8 +76,8 @@ fn list(
 ) -> usize
     requires fact_1 { Offsets offsets.now s.now }
     requires fact_2 { count ≡ length (records_of s.now) }
-    requires fact_3 { from + length (chosen (listed_of (records_of s.now) logical) (records_of s.now) count) ≤ length tape.old }
-    ensures { Listed (chosen (listed_of (records_of s.now) logical) (records_of s.now) count) from tape.old tape.new result }
+    requires fact_3 { from + length (chosen (listed_of logical) (records_of s.now) count) ≤ length tape.old }
+    ensures { Listed (chosen (listed_of logical) (records_of s.now) count) from tape.old tape.new result }
 {
     let mut to = from;
     let mut n = 0;

@@ -296,7 +296,7 @@ mod tests {
     }
 
     #[test]
-    fn all_calls_reach_every_way_and_no_sheet_is_made_twice() {
+    fn both_calls_reach_every_way_and_no_sheet_is_made_twice() {
         for make in [build, lookup, refine] {
             let cases = made(make);
             let sheets: BTreeSet<_> = cases.iter().map(Case::sheet).collect();

@@ -246,7 +246,7 @@ mod tests {
     }
 
     #[test]
-    fn other_refusals_are_noticed() {
+    fn other_refusals_of_a_build_or_a_lookup_are_noticed() {
         let other_record = |reply: &mut Reply| reply.number += u64::from(reply.code == 4);
         let other_end = |reply: &mut Reply| reply.number ^= u64::from(reply.code == 7);
         for call in [Call::Build, Call::Refine, Call::Lookup] {

@@ -5,5 +5,5 @@
 fn main(rt: HostRuntime) {
     let mut input = [0u8; 65536];
     let n = buffers::read_full(&mut rt.stdin(), &mut input);
-    map_lines::build_all(&rt, &input[..n]);
+    build_lines::answer_all(&rt, &input[..n]);
 }

@@ -26,11 +26,11 @@ fn refine_from(rt: &impl Print, s: &[u8]) {
     if s.len() < end {
         return;
     }
-    let mut filled = [map_lines::FILLED; 216];
+    let mut filled = [build_lines::FILLED; 216];
     let out: &mut [u8] = &mut filled;
-    let room = map_lines::room_of(s[1], out);
+    let room = build_lines::room_of(s[1], out);
     let reply = zone::zone_refine(&s[end..], &s[3..end], s[0], &mut out[..room]);
-    map_lines::answer(rt, reply.code, reply.number, out);
+    build_lines::answer(rt, reply.code, reply.number, out);
 }
 
 // Where a map of n bytes ends in its vector.

@@ -9,7 +9,7 @@ ghost use Rattle.buffers.specs.Counts.{IsPrefixLen};
 pub const FILLED: u8 = 170;
 
 // Answers all lines of an input by `zone_build`.
-pub fn build_all(rt: &impl Print, input: &[u8]) {
+pub fn answer_all(rt: &impl Print, input: &[u8]) {
     let mut vector = [0u8; 640];
     let mut at = 0;
     while at < input.len() {

@@ -2,8 +2,8 @@
 
 #![tactic(auto)]
 
-fn main() {
+fn main(rt: HostRuntime) {
     let mut input = [0u8; 65536];
-    let n = io::read_full(0, &mut input);
-    map_lines::build_all(&input[..n]);
+    let n = buffers::read_full(&mut rt.stdin(), &mut input);
+    build_lines::answer_all(&rt, &input[..n]);
 }

@@ -12,15 +12,15 @@ use zonemap::Met;
 // Where the sheet begins in the input.
 const SHEET_FROM: usize = 14;
 
-fn main() {
+fn main(rt: HostRuntime) {
     // One byte more than the longest input allowed, so that a longer one is noticed.
     let mut input = [0u8; 4097];
-    let n = io::read_full(0, &mut input);
+    let n = buffers::read_full(&mut rt.stdin(), &mut input);
     if n < SHEET_FROM || n > 4096 {
-        refuse(1, 0);
+        refuse(&rt, 1, 0);
         return;
     }
-    list(&input[..n]);
+    list(&rt, &input[..n]);
 }
 
 // The root that the input begins with.
@@ -37,7 +37,7 @@ fn root_of(s: &[u8]) -> Root
 }
 
 // Builds the map that the input asks for, and writes it, or the refusal.
-fn list(s: &[u8])
+fn list(rt: &impl Print, s: &[u8])
     requires { 14 ≤ length s.now }
 {
     let root = root_of(s);
@@ -52,18 +52,19 @@ fn list(s: &[u8])
         &mut map,
     ) {
         Reply::Done(n) => {
-            leaves(&map[..n], root);
+            leaves(rt, &map[..n], root);
         }
         Reply::Refused(why) => {
-            refuse(why.code(), why.number());
+            refuse(rt, why.code(), why.number());
         }
     }
 }
 
 // Writes the first line: the root, the depth and the number of leaves.
-fn head(root: Root, leaves: i64) {
-    let _word = io::write_all(1, b"map ");
+fn head(rt: &impl Print, root: Root, leaves: i64) {
+    let _word = print!(rt; "map ");
     line(
+        rt,
         root.x as i64,
         root.y as i64,
         root.z as i64,
@@ -74,27 +75,28 @@ fn head(root: Root, leaves: i64) {
 }
 
 // Writes a map of this root that opens, whichever faces its leaves name: the first line, then one line per leaf.
-fn leaves(map: &[u8], root: Root)
-    requires fact_1 { ((named : ℕ → Bool) × (fault_of named map.now ≡ [])) }
-    requires fact_2 { root ≡ root_of map.now }
+fn leaves(rt: &impl Print, map: &[u8], root: Root)
+    requires opens { ((named : ℕ → Bool) × (fault_of named map.now ≡ [])) }
+    requires root { root ≡ root_of map.now }
 {
     let count = zonemap::leaf_count(map);
-    head(root, count as i64);
+    head(rt, root, count as i64);
     let mut place = 0;
     let mut i = 0;
     while i < count {
         let met = zonemap::meet(map, root, i, place);
-        leaf(met);
+        leaf(rt, met);
         place = met.next;
         i += 1;
     }
 }
 
 // Writes the line of a leaf: its level, the low corner of its cube, its class and its face.
-fn leaf(met: Met) {
+fn leaf(rt: &impl Print, met: Met) {
     let leaf = met.leaf;
     let cube = met.cube;
     line(
+        rt,
         leaf.level as i64,
         cube.x as i64,
         cube.y as i64,
@@ -105,16 +107,16 @@ fn leaf(met: Met) {
 }
 
 // Writes a line of six numbers.
-fn line(a: i64, b: i64, c: i64, d: i64, e: i64, f: i64) {
+fn line(rt: &impl Print, a: i64, b: i64, c: i64, d: i64, e: i64, f: i64) {
     let mut out = [0u8; 126];
     let end = text::put_line(&mut out, a, b, c, d, e, f);
-    let _line = io::write_all(1, &out[..end]);
+    let _line = rt.write_all(&out[..end]);
 }
 
 // Writes `refused`, the code and the number. A reply's number is far below 2^63, so taking the remainder does not change it.
-fn refuse(code: u32, number: usize) {
-    let _word = io::write_all(1, b"refused ");
+fn refuse(rt: &impl Print, code: u32, number: usize) {
+    let _word = print!(rt; "refused ");
     let mut out = [0u8; 42];
     let end = text::put_pair(&mut out, code as i64, (number % 9223372036854775808) as i64);
-    let _line = io::write_all(1, &out[..end]);
+    let _line = rt.write_all(&out[..end]);
 }

@@ -2,20 +2,20 @@
 
 #![tactic(auto)]
 
-fn main() {
+fn main(rt: HostRuntime) {
     let mut input = [0u8; 131072];
-    let n = io::read_full(0, &mut input);
+    let n = buffers::read_full(&mut rt.stdin(), &mut input);
     let mut vector = [0u8; 640];
     let mut at = 0;
     while at < n {
-        let line = vectors::read_line(&input[..n], at, &mut vector);
-        look_up_from(&vector[..line.size]);
+        let line = vectors::read_line(&rt, &input[..n], at, &mut vector);
+        look_up_from(&rt, &vector[..line.size]);
         at = line.next;
     }
 }
 
 // A vector is the bytes of X, Y and Z, the sheet's length (two bytes, since the length in the sheet may be damaged), the sheet and the map. One that is too short leaves its line without an answer.
-fn look_up_from(s: &[u8]) {
+fn look_up_from(rt: &impl Print, s: &[u8]) {
     if s.len() < 14 {
         return;
     }
@@ -30,6 +30,6 @@ fn look_up_from(s: &[u8]) {
         bigendian::i32_at(s, 4),
         bigendian::i32_at(s, 8),
     );
-    vectors::answer(reply.code, reply.number);
-    let _end = io::write_all(1, b"\n");
+    vectors::answer(rt, reply.code, reply.number);
+    let _end = println!(rt);
 }

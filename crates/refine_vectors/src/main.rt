@@ -4,21 +4,21 @@
 
 ghost use Rattle.std.specs.Prelude.{◌≤◌};
 
-fn main() {
+fn main(rt: HostRuntime) {
     let mut input = [0u8; 65536];
-    let n = io::read_full(0, &mut input);
+    let n = buffers::read_full(&mut rt.stdin(), &mut input);
     let mut vector = [0u8; 640];
     let mut at = 0;
     while at < n {
-        let line = vectors::read_line(&input[..n], at, &mut vector);
-        refine_from(&vector[..line.size]);
+        let line = vectors::read_line(&rt, &input[..n], at, &mut vector);
+        refine_from(&rt, &vector[..line.size]);
         at = line.next;
     }
 }
 
 // A vector is the depth, the number of bytes lent, the number of bytes of the map, the map, and the sheet. One that is too short leaves its line without an
 // answer.
-fn refine_from(s: &[u8]) {
+fn refine_from(rt: &impl Print, s: &[u8]) {
     if s.len() < 3 {
         return;
     }
@@ -26,11 +26,11 @@ fn refine_from(s: &[u8]) {
     if s.len() < end {
         return;
     }
-    let mut filled = [map_lines::FILLED; 216];
+    let mut filled = [build_lines::FILLED; 216];
     let out: &mut [u8] = &mut filled;
-    let room = map_lines::room_of(s[1], out);
+    let room = build_lines::room_of(s[1], out);
     let reply = zone::zone_refine(&s[end..], &s[3..end], s[0], &mut out[..room]);
-    map_lines::answer(reply.code, reply.number, out);
+    build_lines::answer(rt, reply.code, reply.number, out);
 }
 
 // Where a map of n bytes ends in its vector.

@@ -12,8 +12,8 @@ use Rattle.integers.proofs.Stores.{sets-append}
 use mir.Syntax.{w64}
 use mir.Val.{SFits, to_z, of_z}
 use mir.Facts.{to_z-of_z}
-use Rattle.io.specs.Counts.{IsPrefixLen}
-use Rattle.io.proofs.Counting.{prefix_len_of_le}
+use Rattle.buffers.specs.Counts.{IsPrefixLen}
+use Rattle.buffers.proofs.Counting.{prefix_len_of_le}
 use Rattle.text.specs.Text.{digit, decimal_of, signed_text, line_of, Puts}
 use Rattle.text.proofs.Digits.{one-digit, more-digits}
 use Rattle.text.proofs.Signs.{less_one, plain-text, less-text, signed-length}
@@ -45,10 +45,6 @@ last-put n at r d o h p = rw (more-digits n h) (both-put _ _ _ _ _ _ _ _ p (byte
 -- ---- a number with its sign, which has at most 20 bytes
 pub number_counts : (n : ℤ) (at r : ℕ) (d o : List ℕ) → SFits w64 n → at + 20 ≤ length d → Puts (signed_text n) at d r o → IsPrefixLen r o
 number_counts n at r d o f l p = prefix_len_of_le r o (omega (arith, signed-length n f, p, ap length p.bytes ∙ length-sets d at (signed_text n)))
-
--- writing the sign keeps the length
-pub sign_kept : (d o : List ℕ) (at v : ℕ) → length o ≡ length (set d at v) → length o ≡ length d
-sign_kept d o at v e = e ∙ length-set d at v
 
 module _ (n : ℤ) (at : ℕ) (d : List ℕ) (f : SFits w64 n) where
   module _ (t : lt_z (to_z w64 (of_z w64 n)) (pos 0) ≡ false) where

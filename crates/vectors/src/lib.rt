@@ -4,7 +4,7 @@
 #![tactic(auto)]
 
 ghost use Rattle.std.specs.Prelude.{◌≤◌, ◌<◌, length};
-ghost use Rattle.io.specs.Counts.{IsPrefixLen};
+ghost use Rattle.buffers.specs.Counts.{IsPrefixLen};
 
 // Of a line that was read: where the next line begins, and the number of bytes in its vector.
 #[derive(Clone, Copy)]
@@ -14,20 +14,20 @@ pub struct Line {
 }
 
 // Writes the label of the line at `at` with its colon, and stores its vector at the start of `vector`. Bytes after the returned size may be left over from an earlier line.
-pub fn read_line(input: &[u8], at: usize, vector: &mut [u8]) -> Line
+pub fn read_line(rt: &impl Print, input: &[u8], at: usize, vector: &mut [u8]) -> Line
     requires { at < length input.now }
     ensures at_lt_next { at < result.next }
     ensures prefix_len { IsPrefixLen result.size vector.new }
 {
     let digits = past(input, at + 1, b':');
-    let _label = io::write_all(1, &input[at..digits]);
+    let _label = rt.write_all(&input[at..digits]);
     put_bytes(input, digits, vector)
 }
 
 // The first position from `from` on that follows a byte `mark`; the end of the input if there is none.
 fn past(input: &[u8], from: usize, mark: u8) -> usize
-    requires fact_1 { 0 < from }
-    requires fact_2 { from ≤ length input.now }
+    requires low { 0 < from }
+    requires high { from ≤ length input.now }
     ensures lower_bound { from ≤ result }
     ensures upper_bound { result ≤ length input.now }
 {
@@ -70,9 +70,6 @@ fn joined(b: u8, c: u8) -> u8 {
 }
 
 // Writes a space, the code, a space and the number. The program ends the line, since some programs print more on it.
-pub fn answer(code: u32, number: u64) {
-    let _space = io::write_all(1, b" ");
-    let _code = io::print_decimal(1, code as u64);
-    let _also = io::write_all(1, b" ");
-    let _number = io::print_decimal(1, number);
+pub fn answer(rt: &impl Print, code: u32, number: u64) {
+    let _answer = print!(rt; " {code} {number}");
 }

@@ -1,34 +1,21 @@
--- `text::put_number` meets its contract: computing the magnitude loses no bit.
-use native.Mathlib.Omega.{arith}
-use Rattle.integers.proofs.Machine.{plain-cast}
-use Rattle.text.proofs.Signs.{less-fits, less-cast, more-fits}
-use Rattle.text.proofs.Storing.{number_counts, sign_kept, plain-room, plain-put, sign-room, sign-put}
-use borrow.Author.Rules.{rules}
+-- `text::put_number` meets its contract: the digits of the magnitude follow the sign, and both have at most 20 bytes.
+use Rattle.text.proofs.Storing.{number_counts, plain-room, plain-put, sign-room, sign-put}
 use Rattle.text.proofs.put_number.Goals as goal
 
-pub overflow_sub-n : goal.overflow_sub-n
-overflow_sub-n c = search (rules, less-fits)
-
-pub overflow_cast-n : goal.overflow_cast-n
-overflow_cast-n c = less-cast c.args.n c.ranges.n c.if-n-lt0.true
-
-pub overflow_add-n : goal.overflow_add-n
-overflow_add-n c = search (rules, more-fits)
-
 pub put_digits-requires : goal.put_digits-requires
-put_digits-requires c = search (rules, sign-room)
+put_digits-requires c = sign-room _ _ _ c.ranges.n c.if-n-lt0.true c.requires _
 
-pub shape_of-out-then-n-lt0 : goal.shape_of-out-then-n-lt0
-shape_of-out-then-n-lt0 c = search (rules, sign_kept)
+pub returns-then-n-lt0-clause-puts : goal.returns-then-n-lt0-clause-puts
+returns-then-n-lt0-clause-puts c = sign-put _ _ _ c.ranges.n c.if-n-lt0.true _ _ c.put_digits.ensures
 
-pub returns-then-n-lt0 : goal.returns-then-n-lt0
-returns-then-n-lt0 c = search (rules, sign-put, number_counts)
-
-pub overflow_cast-n-2 : goal.overflow_cast-n-2
-overflow_cast-n-2 c = plain-cast c.args.n c.ranges.n c.if-n-lt0.false
+pub returns-then-n-lt0-clause-prefix_len : goal.returns-then-n-lt0-clause-prefix_len
+returns-then-n-lt0-clause-prefix_len c = number_counts _ _ _ _ _ c.ranges.n c.requires (sign-put _ _ _ c.ranges.n c.if-n-lt0.true _ _ c.put_digits.ensures)
 
 pub put_digits-requires-2 : goal.put_digits-requires-2
-put_digits-requires-2 c = search (rules, plain-room)
+put_digits-requires-2 c = plain-room _ _ _ c.ranges.n c.if-n-lt0.false c.requires
 
-pub returns : goal.returns
-returns c = search (rules, plain-put, number_counts)
+pub returns-clause-puts : goal.returns-clause-puts
+returns-clause-puts c = plain-put _ _ _ c.ranges.n c.if-n-lt0.false _ _ c.put_digits-2.ensures
+
+pub returns-clause-prefix_len : goal.returns-clause-prefix_len
+returns-clause-prefix_len c = number_counts _ _ _ _ _ c.ranges.n c.requires (plain-put _ _ _ c.ranges.n c.if-n-lt0.false _ _ c.put_digits-2.ensures)

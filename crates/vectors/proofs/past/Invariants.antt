@@ -1,7 +1,5 @@
 -- `vectors::past` meets its contract.
-use borrow.Author.Rules.{rules}
-use Prim.Native.Nat.{◌-◌, ◌≤◌}
-use lib.ListN.{length}
+use Rattle.std.proofs.Common.{length, ◌-◌, ◌≤◌}
 use Rattle.vectors.proofs.past.Given as goal
 
 abbrev pub invariant-loop-end : goal.invariant-loop-end

@@ -1,4 +1,3 @@
-
 use Rattle.replacing.proofs.OneLeaf.{gray-room, gray-written, count_fits, end_fits, gray-counted, stands-room, stands-written, stands-counted}
 use Rattle.replacing.proofs.along.replace.Goals as goal
 

@@ -1,4 +1,3 @@
-
 use Rattle.colour.proofs.Arms.{held_small, coordinate}
 use Rattle.tape.proofs.Words.{x-arm, y-arm, z-arm, sum-arm, difference-arm, product-arm, square-arm}
 use borrow.Author.Rules.{rules}

@@ -1,4 +1,3 @@
-
 use Prim.Native.Nat.{◌-◌}
 use Rattle.tape.proofs.Filling.{bounding-start, bounding-sort, bounding-never, bounding-again, bounding-end}
 use borrow.Author.Rules.{rules}

@@ -1,4 +1,3 @@
-
 use Prim.Native.Nat.{◌-◌}
 use Rattle.tape.proofs.Filling.{Bounding}
 use Rattle.tape.proofs.working.fill_bounds.Given as goal

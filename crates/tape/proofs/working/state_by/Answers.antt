@@ -1,4 +1,3 @@
-
 use Rattle.tape.proofs.Words.{face-arm, both-arm, either-arm, complement-arm}
 use borrow.Author.Rules.{rules}
 use Rattle.tape.proofs.working.state_by.Goals as goal

@@ -1,4 +1,3 @@
-
 use Rattle.tape.proofs.Worked.{first_part, second-part, works-small, places-filled, lent_still, stand}
 use borrow.Author.Rules.{rules}
 use Rattle.tape.proofs.working.work_out.Goals as goal

@@ -3,24 +3,24 @@
 
 #![tactic(auto)]
 
-ghost use Rattle.io.specs.Counts.{IsPrefixLen};
+ghost use Rattle.buffers.specs.Counts.{IsPrefixLen};
 
 // The value of each byte of a buffer before it is lent.
 pub const FILLED: u8 = 170;
 
 // Answers all lines of an input by `zone_build`.
-pub fn build_all(input: &[u8]) {
+pub fn answer_all(rt: &impl Print, input: &[u8]) {
     let mut vector = [0u8; 640];
     let mut at = 0;
     while at < input.len() {
-        let line = vectors::read_line(input, at, &mut vector);
-        build_from(&vector[..line.size]);
+        let line = vectors::read_line(rt, input, at, &mut vector);
+        build_from(rt, &vector[..line.size]);
         at = line.next;
     }
 }
 
 // A vector is the bytes of X, Y, Z, k, d, the number of bytes lent, and the sheet. One that is too short leaves its line without an answer.
-fn build_from(s: &[u8]) {
+fn build_from(rt: &impl Print, s: &[u8]) {
     if s.len() < 15 {
         return;
     }
@@ -36,35 +36,35 @@ fn build_from(s: &[u8]) {
         s[13],
         &mut out[..room],
     );
-    answer(reply.code, reply.number, out);
+    answer(rt, reply.code, reply.number, out);
 }
 
 // The number of bytes lent: b, which no vector has above 216.
 pub fn room_of(b: u8, buffer: &[u8]) -> usize
     ensures { IsPrefixLen result buffer.now }
 {
-    io::count(b as isize, buffer)
+    (b as usize).min(buffer.len())
 }
 
 // Writes the rest of a line; only the bytes of a map may differ from the fill value.
-pub fn answer(code: u32, number: u64, out: &[u8]) {
-    vectors::answer(code, number);
+pub fn answer(rt: &impl Print, code: u32, number: u64, out: &[u8]) {
+    vectors::answer(rt, code, number);
     let size = if code == 0 { number as usize } else { 0 };
-    show(out, size);
+    show(rt, out, size);
     if is_filled(out, size) {
-        let _kept = io::write_all(1, b" kept\n");
+        let _kept = println!(rt; " kept");
     } else {
-        let _changed = io::write_all(1, b" CHANGED\n");
+        let _changed = println!(rt; " CHANGED");
     }
 }
 
 // Writes the first n bytes.
-fn show(out: &[u8], n: usize) {
+fn show(rt: &impl Print, out: &[u8], n: usize) {
     for i in 0..out.len() {
         if n <= i {
             return;
         }
-        byte(out[i]);
+        byte(rt, out[i]);
     }
 }
 
@@ -78,7 +78,6 @@ fn is_filled(out: &[u8], n: usize) -> bool {
     true
 }
 
-fn byte(b: u8) {
-    let _space = io::write_all(1, b" ");
-    let _byte = io::print_hex(1, b as u64, 2);
+fn byte(rt: &impl Print, b: u8) {
+    let _byte = print!(rt; " {b:02x}");
 }

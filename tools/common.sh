@@ -63,7 +63,8 @@ rt_on() { # NAME INPUT OUTPUT COMMAND..
     shift 3
     crates_of "$crate" >"$work/crates"
     [ -p "$work/pipe" ] || mkfifo "$work/pipe" || exit 2
-    (cd "$top/crates/$crate" && exec rt "$@") <"$input" >"$output" 2>"$work/pipe" &
+    # The pipe comes first: whatever fails, it is opened and closed again.
+    (cd "$top/crates/$crate" && exec rt "$@") 2>"$work/pipe" <"$input" >"$output" &
     prover=$!
     while IFS= read -r line; do
         printf '%s\n' "$line" >&3

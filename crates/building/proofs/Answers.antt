@@ -1,6 +1,6 @@
 -- What follows if building is done: the sheet is good, no row refuses, and the map is at the start of the lent buffer.
 use mathlib.Core.Path.{◌≡◌, refl, ap, ◌∙◌}
-use mathlib.Core.Bool.{Bool, true, false, cond, not, true≢false}
+use mathlib.Core.Bool.{Bool, true, false, true≢false}
 use mathlib.Core.List.{List, [], ◌++◌}
 use Prim.Native.Nat.{ℕ, ◌≤◌}
 use native.Mathlib.Omega.{arith}
@@ -80,9 +80,3 @@ module _ (map_over : List Record → Root → List ℕ) (s : List ℕ) (root : R
   done-made e =
       let t = not_first n out after (refusal_of (check_of s)) (λ why. outcome (Refused why) out) _ (λ why. refl) e in
       (t.0, solid-made n out after map_over (records_of s) root t.1)
-
--- only the map itself matters
-pub over-same : (f g : List Record → Root → List ℕ) (rs : List Record) (root : Root) (out : List ℕ) → f rs root ≡ g rs root → over_root_with f rs root out ≡ over_root_with g rs root out
-unfolding over_root_with
-over-same f g rs root out e =
-    ap (λ (map : List ℕ). cond (not (in_limits root)) (outcome (Refused Limits) out) (on_first (first_past rs (root_cube root)) (λ o. outcome (Refused (OverRoot o)) out) (stored_of map out))) e

@@ -1,3 +1,3 @@
-pub mod Answers
 pub mod Outcomes
 pub mod Rows
+pub mod Answers

@@ -1,13 +1,13 @@
 -- The outcome of building at each test, and what the functions on the way require.
-use mathlib.Core.Path.{◌≡◌, refl, sym, ap, ap₂, ◌∙◌}
-use mathlib.Core.Bool.{Bool, true, false, cond, not, true≢false}
+use mathlib.Core.Path.{◌≡◌, refl, sym, ap, ◌∙◌}
+use mathlib.Core.Bool.{Bool, true, false, not}
 use mathlib.Core.List.{List, []}
-use Prim.Native.Nat.{ℕ, ◌+◌, ◌-◌, ◌*◌, ◌/◌, ◌^◌, ◌≤◌, ◌<◌}
-use native.Mathlib.Nat.{zero-add, zero-mul}
+use Prim.Native.Nat.{ℕ, ◌+◌, ◌-◌, ◌*◌, ◌^◌, ◌≤◌, ◌<◌}
+use native.Mathlib.Nat.{zero-add}
 use native.Mathlib.Omega.{arith}
 use borrow.Author.Tests.{not-true, not-false, lt-ltb, le-ltb}
 use lib.IntN.{ℤ, pos}
-use mir.Syntax.{w8, w32}
+use mir.Syntax.{w8, w32, w64}
 use mir.Val.{Fits, SFits}
 use lib.ListN.{length, replicate}
 use lib.Seq.{sets, sets-eq, length-sets}
@@ -24,11 +24,16 @@ use Rattle.sheet.proofs.Arrays.{filled-with}
 use Rattle.sheet.proofs.Good.{records-few, good-count, good-some}
 use Rattle.cube.specs.declared.Root.{Root}
 use Rattle.cube.specs.declared.Cube.{Cube}
-use Rattle.cube.specs.Limits.{in_limits, at_depth, Near}
-use Rattle.cube.specs.Cubes.{root_cube, cube_at}
+use Rattle.cube.specs.Limits.{in_limits}
+use Rattle.cube.specs.Cubes.{root_cube}
 use Rattle.cube.proofs.Passed.{passed_root, same-root}
-use Rattle.cube.proofs.Limits.{limits-sizes, shallower}
-use Rattle.cube.proofs.Cubes.{root-small, near-all, near-once, root-cube, inside-itself}
+use Rattle.cube.proofs.Limits.{limits-sizes}
+use Rattle.cube.proofs.Cubes.{near-all}
+use Rattle.carried.proofs.Shorter.{inside-itself}
+use Rattle.tape.specs.declared.Tape.{Tape}
+use Rattle.tape.specs.Working.{Places}
+use Rattle.tape.specs.Lent.{Lent, Starts}
+use Rattle.tape.proofs.Carrying.{carries-inner}
 use Rattle.colour.specs.declared.State.{State}
 use Rattle.colour.specs.declared.Judged.{Judged}
 use Rattle.colour.specs.declared.Judged.TheVariants.{Known, Past}
@@ -36,24 +41,11 @@ use Rattle.colour.specs.Entries.{judged_of, first_past}
 use Rattle.colour.proofs.Told.{known-none, past_first}
 use Rattle.zonemap.specs.declared.Leaf.{Leaf}
 use Rattle.zonemap.specs.Map.{header_of, leaves_bytes, map_of}
-use Rattle.zonemap.specs.Opening.{root_of, leaves_of}
-use Rattle.zonemap.specs.Leaves.{place_at}
 use Rattle.zonemap.proofs.Bytes.{header-length, map-length}
-use Rattle.tape.specs.declared.Tape.{Tape}
-use Rattle.tape.specs.Working.{Places}
-use Rattle.tape.specs.Lent.{Lent, Starts}
-use Rattle.tape.proofs.Carrying.{carries-inner}
-use Rattle.tree.specs.Visit.{upto}
-use Rattle.tree.specs.Solid.{solid_state}
-use Rattle.tree.specs.Walk.{Ready, Left}
-use Rattle.replacing.specs.declared.Next.{Next}
-use Rattle.replacing.specs.Replace.{replaced_at, refined_leaves, refined_map, gray_map}
-use Rattle.replacing.specs.Walk.{Deeper, Along, Passed}
-use Rattle.replacing.proofs.Pieces.{piece-all}
-use Rattle.replacing.proofs.Places.{leaf_last, few-before}
-use Rattle.replacing.proofs.Grays.{gray-deeper, gray-refined}
+use Rattle.tree.specs.Solid.{solid_state, leaves_below}
 use Rattle.building.specs.Build.{Outcome, outcome, map_by, built_map, stored_of, over_root_with, over_root_of, build_with, build_of}
-use Rattle.building.proofs.Answers.{over-same}
+use Rattle.tree.specs.Walk.{Ready, Left}
+use Rattle.tree.proofs.Cubes.{leaves-few}
 
 -- ---- replies 1 to 5: r is what `check` returned
 module _ (s : List ℕ) (r : Reply) (e : r ≡ check_of s) where
@@ -82,53 +74,24 @@ module _ (s : List ℕ) (r : Reply) (e : r ≡ check_of s) where
 pub checked-count : (s : List ℕ) (n : ℕ) → check_of s ≡ Done n → n ≡ length (records_of s)
 checked-count s n h = good-count s (check_of s) refl n h
 
--- to build is to refine the map of one gray leaf
-pub gray-builds : (root : Root) → in_limits (at_depth 0 root) ≡ true → (rs : List Record) → refined_map (solid_state rs) (gray_map root) root ≡ built_map rs root
-unfolding refined_map map_by
-gray-builds root within-top rs = ap (map_of root) (gray-refined root within-top (solid_state rs))
-
--- ---- reply 6: b is what `is_within` returned, and m what `gray_map` wrote
+-- ---- reply 6: b is what `is_within` returned
 module _ (root : Root) (b : Bool) (e : b ≡ in_limits root) where
   pub outside : not b ≡ true → (rs : List Record) (d : List ℕ) → outcome (Refused Limits) d ≡ over_root_of rs root d
   unfolding over_root_with
   outside t rs d = rw (sym e ∙ not-true b t)
 
-  module _ (t : not b ≡ false) (m : List ℕ) (is : m ≡ gray_map root) where
-    within : in_limits root ≡ true
-    within = sym e ∙ not-false b t
-
-    within-top : in_limits (at_depth 0 root) ≡ true
-    within-top = shallower root within 0 (omega arith)
-
-    pub gray-opens : Deeper m root
-    gray-opens = rw is (gray-deeper root within-top within)
-
-    gray-map : (rs : List Record) → refined_map (solid_state rs) m root ≡ built_map rs root
-    gray-map rs = rw is (gray-builds root within-top rs)
-
-    pub gray-built : (rs : List Record) (d : List ℕ) (o : Outcome) → o ≡ over_root_with (λ rs. refined_map (solid_state rs) m) rs root d → o ≡ over_root_of rs root d
-    gray-built rs d o h = h ∙ over-same (λ rs. refined_map (solid_state rs) m) built_map rs root d (gray-map rs)
+  pub within : not b ≡ false → in_limits root ≡ true
+  within t = sym e ∙ not-false b t
 
 -- ---- reply 7: q is what `cube` returned, and j what `judge` did
-module _ (map : List ℕ) (root : Root) (deeper : Deeper map root) where
-  pub root-side : root.k ≤ 16
-  root-side = root-small root deeper.within
+module _ (root : Root) (w : in_limits root ≡ true) (q : Cube) (is : q ≡ root_cube root) (rs : List Record) (solid : ℕ) (j : Judged) (e : j ≡ judged_of rs q solid) where
+  pub over_root_lem : (o : Over) → j ≡ Past o → (d : List ℕ) → outcome (Refused (OverRoot o)) d ≡ over_root_of rs root d
+  unfolding over_root_with
+  over_root_lem o h d = rw (w, past_first rs (root_cube root) q is solid j e o h)
 
-  module _ (q : Cube) (is : q ≡ root_cube root) where
-    pub root-near : Near 0 q
-    root-near = near-once root deeper.within q is
-
-    module _ (rs : List Record) (solid : ℕ) (j : Judged) (e : j ≡ judged_of rs q solid) where
-      abbrev Is : Outcome → List ℕ → Type 0
-      Is o d = o ≡ over_root_with (λ rs. refined_map (solid_state rs) map) rs root d
-
-      pub over_root_lem : (o : Over) → j ≡ Past o → (d : List ℕ) → Is (outcome (Refused (OverRoot o)) d) d
-      unfolding over_root_with
-      over_root_lem o h d = rw (deeper.within, past_first rs (root_cube root) q is solid j e o h)
-
-      pub under-limit : (state : State) → j ≡ Known state → (d : List ℕ) (o : Outcome) → o ≡ stored_of (refined_map (solid_state rs) map root) d → Is o d
-      unfolding over_root_with
-      under-limit state h d o k = rw (deeper.within, known-none rs (root_cube root) q is solid j e state h) k
+  pub under-limit : (state : State) → j ≡ Known state → (d : List ℕ) (o : Outcome) → o ≡ stored_of (built_map rs root) d → o ≡ over_root_of rs root d
+  unfolding over_root_with
+  under-limit state h d o k = rw (w, known-none rs (root_cube root) q is solid j e state h) k
 
 -- arrays of zeros are places for bounds and states
 pub zero-places : Places (replicate 256 (pos 0)) (replicate 256 (pos 0)) (replicate 256 0) (replicate 256 0)
@@ -139,131 +102,68 @@ zero-places =
       faces-long = refl;
     }
 
--- ---- reply 8, or the map: q is what `cube` returned
-module _ (map : List ℕ) (root : Root) (deeper : Deeper map root) (rs : List Record) (q : Cube) (is : q ≡ root_cube root) where
+-- ---- reply 8, or the map: q is what `cube` returned, and n what `count` did
+module _ (root : Root) (q : Cube) (is : q ≡ root_cube root) (rs : List Record) where
   -- the root is ready for a walk, and is so again after one
-  module _ (none : first_past rs (root_cube root) ≡ []) (tape₀ : List ℕ) (t : Tape) (starts : Starts rs tape₀ t) where
+  module _ (w : in_limits root ≡ true) (none : first_past rs (root_cube root) ≡ []) (tape₀ : List ℕ) (t : Tape) (starts : Starts rs tape₀ t) where
     pub ready-root : (low high : List ℤ) (classes faces : List ℕ) → Lent rs low high classes faces → Ready rs root.d q tape₀ t low high classes faces
-    ready-root low high classes faces lent = record { near = near-all root deeper.within q is; none = rw is none; carries = starts q; lent = lent }
+    ready-root low high classes faces lent = record { near = near-all root w q is; none = rw is none; carries = starts q; lent = lent }
 
-    pub ready-again : (tape : List ℕ) (low high : List ℤ) (classes faces : List ℕ) → Left rs t tape₀ tape low high classes faces → Ready rs root.d q tape t low high classes faces
-    ready-again tape low high classes faces left =
-        record { near = near-all root deeper.within q is; none = rw is none; carries = carries-inner rs q tape₀ t (starts q) q (inside-itself q) tape left.stays; lent = left.lent }
+    module _ (n : ℕ) (tape : List ℕ) (low high : List ℤ) (classes faces : List ℕ) (e : (n ≡ length (leaves_below (solid_state rs) root.d q)) × Left rs t tape₀ tape low high classes faces) where
+      pub ready-again : (top : Cube) → top ≡ root_cube root → Ready rs root.d top tape t low high classes faces
+      ready-again top same =
+          record { near = near-all root w top same; none = rw same none; carries = carries-inner rs top tape₀ t (starts top) top (inside-itself top) tape e.1.stays; lent = e.1.lent }
 
-  abbrev over : Cube → State
-  over = solid_state rs
+  module _ (n : ℕ) {P : Type 0} (e : (n ≡ length (leaves_below (solid_state rs) root.d q)) × P) where
+    abbrev count : n ≡ length (leaves_below (solid_state rs) root.d q)
+    count = e.0
 
-  abbrev first : Next
-  first = record { leaf = 0; to = 19 }
+    module _ (w : in_limits root ≡ true) where
+      pub count-few : n ≤ 2 ^ 30
+      count-few = rw count (leaves-few (solid_state rs) root.d q (limits-sizes root w).1)
 
-  abbrev new : List Leaf
-  new = refined_leaves over root.d map
+      pub count_fits : Fits w32 n
+      count_fits = record { fits = omega (arith, count-few) }
 
-  level-is : q.level ≡ 0
-  unfolding root_cube
-  level-is = ap (λ (x : Cube). x.level) is
+      pub leaves-fit : Fits w64 (3 * n)
+      leaves-fit = record { fits = omega (arith, count-few) }
 
-  depth_is : q.level + root.d ≡ root.d
-  depth_is = omega (arith, level-is)
+      pub need-fits : Fits w64 (19 + 3 * n)
+      need-fits = record { fits = omega (arith, count-few) }
 
-  cube-is : q ≡ cube_at (root_of map) (0 * 8 ^ (root_of map).d) q.level
-  unfolding root_cube
-  cube-is =
-      is ∙ ap root_cube deeper.same ∙ sym (root-cube (root_of map))
-      ∙ ap₂ (cube_at (root_of map)) (sym (zero-mul (8 ^ (root_of map).d))) (sym level-is)
+    length-is : length (built_map rs root) ≡ 19 + 3 * n
+    unfolding map_by
+    length-is = map-length root _ ∙ rw (count, is)
 
-  walks : (writing : Bool) (out : List ℕ) → (writing ≡ true → 19 + 3 * length new ≤ length out) → Along over (q.level + root.d) map q first writing out
-  unfolding place_at upto refined_leaves
-  walks writing out room =
-      rw depth_is
-      (record {
-        opens = deeper.opens;
-        depth = deeper.depth;
-        begins = record {
-          below = (root_of map).d;
-          number = 0;
-          depth = omega (arith, level-is);
-          place = sym (zero-mul (8 ^ (root_of map).d));
-          cube = cube-is;
-          end = omega arith;
-          deep = omega (arith, level-is);
-        };
-        to = refl;
-        room = room;
-      })
-
-  -- the first walk only counts
-  pub walks-counting : (out : List ℕ) → Along over (q.level + root.d) map q first false out
-  walks-counting out = walks false out (λ h. absurd (true≢false (sym h)))
-
-  module _ (writing : Bool) (before after : List ℕ) (end : Next) (passed : Passed over (q.level + root.d) map q first end writing before after) where
-    all-leaves : end.leaf ≡ length (leaves_of map)
-    unfolding place_at
-    all-leaves =
-        let z : (root_of map).d - q.level ≡ (root_of map).d = omega (arith, level-is) in
-        leaf_last map deeper.opens end.leaf passed.among (passed.place ∙ zero-add _ ∙ ap (λ (n : ℕ). 8 ^ n) z)
-
-    to_is : end.to ≡ 19 + 3 * length new
-    unfolding refined_leaves
-    to_is = rw (depth_is, all-leaves) at passed.to
-
-    bytes-are : after ≡ cond writing (sets before 19 (leaves_bytes new)) before
-    unfolding refined_leaves
-    bytes-are =
-        let z : end.leaf - 0 ≡ length (leaves_of map) = omega (arith, all-leaves) in
-        rw (depth_is, z, piece-all (replaced_at over root.d map) (length (leaves_of map))) at passed.bytes
-
-  few : length new ≤ 2 ^ 30
-  unfolding refined_leaves
-  few = few-before map deeper.opens over root.d deeper.depth (limits-sizes root deeper.within).1 (length (leaves_of map)) (omega arith)
-
-  length-is : length (refined_map over map root) ≡ 19 + 3 * length new
-  unfolding refined_map
-  length-is = map-length root new
-
-  -- what it counted
-  module _ (d d₁ : List ℕ) (end : Next) {P : Type 0} (e : Passed over (q.level + root.d) map q first end false d d₁ × P) where
-    need-is : end.to ≡ 19 + 3 * length new
-    need-is = to_is false d d₁ end e.0
-
-    same : d₁ ≡ d
-    same = bytes-are false d d₁ end e.0
-
-    abbrev n : ℕ
-    n = (end.to - 19) / 3
-
-    n-is : n ≡ length new
-    n-is = omega (arith, need-is)
-
-    pub too_short : length d₁ < end.to → outcome (Refused (Short end.to)) d₁ ≡ stored_of (refined_map over map root) d
+    pub too_short : (d : List ℕ) → length d < 19 + 3 * n → outcome (Refused (Short (19 + 3 * n))) d ≡ stored_of (built_map rs root) d
     unfolding stored_of
-    too_short h = rw (length-is, ← need-is, ← same, lt-ltb (length d₁) end.to h)
+    too_short d h = rw (length-is, lt-ltb (length d) (19 + 3 * n) h)
 
-    pub n-fits : Fits w32 n
-    n-fits = record { fits = omega (arith, n-is, few) }
+    -- top is what `cube` returned the second time
+    module _ (d : List ℕ) (room : 19 + 3 * n ≤ length d) (d₁ : List ℕ) (header : d₁ ≡ sets d 0 (header_of root n)) (top : Cube) (same : top ≡ root_cube root) where
+      abbrev ls : List Leaf
+      ls = leaves_below (solid_state rs) root.d top
 
-    pub n-few : n ≤ 2 ^ 30
-    n-few = omega (arith, n-is, few)
+      count-is : n ≡ length ls
+      count-is = count ∙ rw (is, same)
 
-    module _ (room : end.to ≤ length d₁) where
-      pub header-room : 19 ≤ length d₁
-      header-room = omega (arith, need-is)
+      pub write-room : 19 + 3 * length ls ≤ length d₁
+      write-room = rw (← count-is, header, length-sets d 0 (header_of root n)) room
 
-      module _ (d₂ : List ℕ) (header : d₂ ≡ sets d₁ 0 (header_of root n)) where
-        -- the second walk writes
-        pub walks-writing : Along over (q.level + root.d) map q first true d₂
-        walks-writing = walks true d₂ (λ _. omega (arith, need-is, ap length header ∙ length-sets d₁ 0 (header_of root n)))
+      module _ (end : ℕ) (d₂ : List ℕ) {Q : Type 0} (f : (end ≡ 19 + 3 * length ls) × (d₂ ≡ sets d₁ 19 (leaves_bytes ls)) × Q) where
+        abbrev leaves : d₂ ≡ sets d₁ 19 (leaves_bytes ls)
+        leaves = f.1
 
-        module _ (d₃ : List ℕ) (last : Next) {Q : Type 0} (f : Passed over (q.level + root.d) map q first last true d₂ d₃ × Q) where
-          stored : d₃ ≡ sets d 0 (refined_map over map root)
-          unfolding refined_map map_of
-          stored =
-              bytes-are true d₂ d₃ last f.0
-              ∙ ap (λ (x : List ℕ). sets x 19 (leaves_bytes new)) (header ∙ ap₂ (λ (x : List ℕ) (i : ℕ). sets x 0 (header_of root i)) same n-is)
-              ∙ sets-append d 0 19 (header_of root (length new)) (leaves_bytes new) (omega (arith, header-length root (length new)))
+        stored : d₂ ≡ sets d 0 (built_map rs root)
+        unfolding map_by map_of
+        stored =
+            leaves
+            ∙ ap (λ (x : List ℕ). sets x 19 (leaves_bytes ls)) header
+            ∙ sets-append d 0 19 (header_of root n) (leaves_bytes ls) (omega (arith, header-length root n))
+            ∙ rw (count-is, same)
 
-          pub whole : outcome (Done end.to) d₃ ≡ stored_of (refined_map over map root) d
-          unfolding stored_of
-          whole =
-              rw (length-is, ← need-is, le-ltb (length d) end.to (rw same at room))
-              (ap (outcome (Done end.to)) (stored ∙ sets-eq (refined_map over map root) d 0 (omega (arith, length-is, need-is, rw same at room)) ∙ rw (zero-add, length-is, need-is)))
+        pub whole : outcome (Done (19 + 3 * n)) d₂ ≡ stored_of (built_map rs root) d
+        unfolding stored_of
+        whole =
+            rw (length-is, le-ltb (length d) (19 + 3 * n) room)
+            (ap (outcome (Done (19 + 3 * n))) (stored ∙ sets-eq (built_map rs root) d 0 (omega (arith, length-is)) ∙ rw (zero-add, length-is)))

@@ -1,22 +1,18 @@
-// The public call: the replies in order of test, then the map. To build is to refine the map whose one leaf is the root, gray; so `over_root` and what is
-// below it serve refining too.
+// The public call: the replies in order of test, then the map.
 
-ghost use Rattle.std.specs.Prelude.{◌≡◌, ◌+◌, []};
+ghost use Rattle.std.specs.Prelude.{◌≡◌, ◌+◌, true, []};
 ghost use Rattle.replies.specs.declared.Reply.TheVariants.{Done};
 ghost use Rattle.sheet.specs.Records.{records_of};
 ghost use Rattle.sheet.specs.Check.{check_of};
 ghost use Rattle.records.specs.Offsets.{Offsets};
+ghost use Rattle.cube.specs.Limits.{in_limits};
 ghost use Rattle.cube.specs.Cubes.{root_cube};
 ghost use Rattle.colour.specs.Entries.{first_past};
 ghost use Rattle.tape.specs.Lent.{Lent, Starts};
-ghost use Rattle.tree.specs.Solid.{solid_state};
-ghost use Rattle.replacing.specs.Replace.{refined_map};
-ghost use Rattle.replacing.specs.Walk.{Deeper};
-ghost use Rattle.building.specs.Build.{outcome, stored_of, over_root_with, over_root_of, build_of};
+ghost use Rattle.building.specs.Build.{outcome, built_map, stored_of, over_root_of, build_of};
 
 use colour::Judged;
 use cube::Root;
-use replacing::Next;
 use replies::{Refusal, Reply};
 use tape::Tape;
 
@@ -27,7 +23,7 @@ pub fn build(sheet: &[u8], x: i32, y: i32, z: i32, k: u8, d: u8, out: &mut [u8])
     let root = Root { x, y, z, k, d };
     match sheet::check(sheet) {
         Reply::Done(n) => {
-            return from_gray(sheet, (n - 1) as u8, root, out);
+            return over_root(sheet, (n - 1) as u8, root, out);
         }
         Reply::Refused(why) => {
             return Reply::Refused(why);
@@ -35,32 +31,20 @@ pub fn build(sheet: &[u8], x: i32, y: i32, z: i32, k: u8, d: u8, out: &mut [u8])
     }
 }
 
-// Reply 6, then the rest.
-fn from_gray(sheet: &[u8], solid: u8, root: Root, out: &mut [u8]) -> Reply
+// Replies 6 and 7, then the rest. Only the root can be refused for the limit: if no record passes it there, none does over a smaller cube.
+fn over_root(sheet: &[u8], solid: u8, root: Root, out: &mut [u8]) -> Reply
     requires { check_of sheet.now ≡ Done (solid + 1) }
     ensures { outcome result out.new ≡ over_root_of (records_of sheet.now) root out.old }
 {
     if !root.is_within() {
         return Reply::Refused(Refusal::Limits);
     }
-    let mut gray = [0u8; 22];
-    replacing::gray_map(root, &mut gray);
-    over_root(sheet, solid, &gray, root, out)
-}
-
-// Reply 7, then the rest, for a map that is refined to the root's depth. Only the root can be refused for the limit: if no record passes it there, none does
-// over a smaller cube.
-pub fn over_root(sheet: &[u8], solid: u8, map: &[u8], root: Root, out: &mut [u8]) -> Reply
-    requires fact_1 { check_of sheet.now ≡ Done (solid + 1) }
-    requires fact_2 { Deeper map.now root }
-    ensures { outcome result out.new ≡ over_root_with (λ rs. refined_map (solid_state rs) map.now) (records_of sheet.now) root out.old }
-{
     let count = solid as usize + 1;
     let mut offsets = [0u16; 256];
     records::list_offsets(sheet, count, &mut offsets);
     match colour::judge(sheet, &offsets, count, root.cube(), solid) {
         Judged::Known(_) => {
-            return started(sheet, &offsets, count, map, root, out);
+            return started(sheet, &offsets, count, root, out);
         }
         Judged::Past(over) => {
             return Reply::Refused(Refusal::OverRoot(over));
@@ -69,19 +53,12 @@ pub fn over_root(sheet: &[u8], solid: u8, map: &[u8], root: Root, out: &mut [u8]
 }
 
 // The walks below the root share one tape and one place for each record's bounds and state, which lie here.
-fn started(
-    sheet: &[u8],
-    offsets: &[u16],
-    count: usize,
-    map: &[u8],
-    root: Root,
-    out: &mut [u8],
-) -> Reply
+fn started(sheet: &[u8], offsets: &[u16], count: usize, root: Root, out: &mut [u8]) -> Reply
     requires fact_1 { Offsets offsets.now sheet.now }
     requires fact_2 { check_of sheet.now ≡ Done count }
-    requires fact_3 { Deeper map.now root }
+    requires fact_3 { in_limits root ≡ true }
     requires fact_4 { first_past (records_of sheet.now) (root_cube root) ≡ [] }
-    ensures { outcome result out.new ≡ stored_of (refined_map (solid_state (records_of sheet.now)) map.now root) out.old }
+    ensures { outcome result out.new ≡ stored_of (built_map (records_of sheet.now) root) out.old }
 {
     let mut tape = [0u32; 640];
     let mut low = [0i64; 256];
@@ -100,7 +77,6 @@ fn started(
     );
     stored(
         sheet,
-        map,
         &mut tape,
         &mut low,
         &mut high,
@@ -115,7 +91,6 @@ fn started(
 // Reply 8, or the map.
 fn stored(
     sheet: &[u8],
-    map: &[u8],
     tape: &mut [u32],
     low: &mut [i64],
     high: &mut [i64],
@@ -127,26 +102,38 @@ fn stored(
 ) -> Reply
     requires fact_1 { Lent (records_of sheet.now) low.old high.old classes.old faces.old }
     requires fact_2 { Starts (records_of sheet.now) tape.old t }
-    requires fact_3 { Deeper map.now root }
+    requires fact_3 { in_limits root ≡ true }
     requires fact_4 { first_past (records_of sheet.now) (root_cube root) ≡ [] }
-    ensures { outcome result out.new ≡ stored_of (refined_map (solid_state (records_of sheet.now)) map.now root) out.old }
+    ensures { outcome result out.new ≡ stored_of (built_map (records_of sheet.now) root) out.old }
 {
-    let top = root.cube();
-    let first = Next {
-        leaf: 0,
-        to: zonemap::HEADER,
-    };
-    let end = replacing::walk(
-        sheet, map, out, tape, low, high, classes, faces, t, top, root.d, first, false,
+    let n = tree::count(
+        sheet,
+        tape,
+        low,
+        high,
+        classes,
+        faces,
+        t,
+        root.cube(),
+        root.d,
     );
-    let need = end.to;
+    let need = zonemap::HEADER + 3 * n;
     if out.len() < need {
         return Reply::Refused(Refusal::Short(need));
     }
-    let n = (need - zonemap::HEADER) / 3;
     zonemap::put_header(out, root, n as u32);
-    let _end = replacing::walk(
-        sheet, map, out, tape, low, high, classes, faces, t, top, root.d, first, true,
+    let _end = tree::write(
+        sheet,
+        out,
+        zonemap::HEADER,
+        tape,
+        low,
+        high,
+        classes,
+        faces,
+        t,
+        root.cube(),
+        root.d,
     );
     Reply::Done(need)
 }

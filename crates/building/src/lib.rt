@@ -4,4 +4,4 @@
 
 mod building;
 
-pub use building::{build, over_root};
+pub use building::build;

@@ -31,8 +31,8 @@ use Rattle.tree.specs.Solid.{solid_state, leaf_of}
 use Rattle.replacing.specs.Replace.{refined_leaves, refined_map, gray_map}
 use Rattle.replacing.proofs.Grays.{gray-opens, gray-root}
 use Rattle.building.specs.Build.{outcome, built_map, over_root_with, build_with}
-use Rattle.building.proofs.Answers.{Made, over-same}
-use Rattle.building.proofs.Outcomes.{gray-builds}
+use Rattle.building.proofs.Answers.{Made}
+use Rattle.refine.proofs.Grays.{over-same, gray-builds}
 use Rattle.pair.specs.Pairs.{pair_refusal}
 use Rattle.pair.proofs.Openings.{pair-good, pair-opens}
 use Rattle.refine.specs.Refine.{refine_of}

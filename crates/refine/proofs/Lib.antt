@@ -1,2 +1,4 @@
+pub mod OverRoot
 pub mod Outcomes
 pub mod Answers
+pub mod Grays

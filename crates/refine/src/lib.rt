@@ -2,6 +2,7 @@
 
 #![tactic(auto)]
 
+mod deepening;
 mod refining;
 
 pub use refining::refine;

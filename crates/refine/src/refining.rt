@@ -6,6 +6,7 @@ ghost use Rattle.building.specs.Build.{outcome};
 ghost use Rattle.pair.specs.Pairs.{pair_refusal, pair_of};
 ghost use Rattle.refine.specs.Refine.{refine_of};
 
+use crate::deepening::over_root;
 use cube::Point;
 use pair::{Opened, Pair};
 use replies::{Refusal, Reply};
@@ -37,5 +38,5 @@ fn deepen(sheet: &[u8], map: &[u8], pair: Pair, d: u8, out: &mut [u8]) -> Reply
     if !root.is_within() {
         return Reply::Refused(Refusal::Limits);
     }
-    building::over_root(sheet, (pair.count - 1) as u8, map, root, out)
+    over_root(sheet, (pair.count - 1) as u8, map, root, out)
 }

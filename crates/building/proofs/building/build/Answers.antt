@@ -10,8 +10,8 @@ overflow_sub-n c = search (rules, good-some)
 pub overflow_cast-n : goal.overflow_cast-n
 overflow_cast-n c = search (rules, last_fits)
 
-pub from_gray-requires : goal.from_gray-requires
-from_gray-requires c = search (rules, checked)
+pub over_root-requires : goal.over_root-requires
+over_root-requires c = search (rules, checked)
 
 pub returns-in-Done : goal.returns-in-Done
 returns-in-Done c = search (rules, good-sheet)

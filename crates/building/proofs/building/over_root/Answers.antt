@@ -1,26 +1,33 @@
--- `building::building::over_root_lem` meets its contract: the limit of the bounds over the root.
+-- `building::building::over_root` meets its contract: the limits of the root, then the limit of the bounds over it.
+use Rattle.cube.proofs.Cubes.{root-small, near-once}
 use Rattle.colour.proofs.Told.{known-none}
-use Rattle.building.proofs.Outcomes.{checked-count, root-side, root-near, over_root_lem, under-limit}
+use Rattle.building.proofs.Outcomes.{checked-count, outside, within, over_root_lem, under-limit}
 use borrow.Author.Rules.{rules}
 use Rattle.building.proofs.building.over_root.Goals as goal
+
+pub returns-then-not-is_within : goal.returns-then-not-is_within
+returns-then-not-is_within c = search (rules, outside)
 
 pub list_offsets-requires : goal.list_offsets-requires
 list_offsets-requires c = search (rules, checked-count)
 
 pub cube-requires : goal.cube-requires
-cube-requires c = search (rules, root-side)
+cube-requires c = search (rules, within, root-small)
 
 pub judge-requires-clause-fact_2 : goal.judge-requires-clause-fact_2
 judge-requires-clause-fact_2 c = search (rules, checked-count)
 
 pub judge-requires-clause-fact_3 : goal.judge-requires-clause-fact_3
-judge-requires-clause-fact_3 c = search (rules, root-near)
+judge-requires-clause-fact_3 c = search (rules, within, near-once)
+
+pub started-requires-clause-fact_3 : goal.started-requires-clause-fact_3
+started-requires-clause-fact_3 c = search (rules, within)
 
 pub started-requires-clause-fact_4 : goal.started-requires-clause-fact_4
 started-requires-clause-fact_4 c = known-none _ _ _ c.cube.ensures _ _ c.judge.ensures _ c.in-Known.is
 
 pub returns-in-Known : goal.returns-in-Known
-returns-in-Known c = under-limit _ _ c.requires.fact_2 _ c.cube.ensures _ _ _ c.judge.ensures _ c.in-Known.is _ _ c.started.ensures
+returns-in-Known c = search (rules, within, under-limit)
 
 pub returns-in-Past : goal.returns-in-Past
-returns-in-Past c = over_root_lem _ _ c.requires.fact_2 _ c.cube.ensures _ _ _ c.judge.ensures _ c.in-Past.is _
+returns-in-Past c = search (rules, within, over_root_lem)

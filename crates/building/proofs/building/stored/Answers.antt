@@ -1,35 +1,44 @@
 -- `building::building::stored` meets its contract: the header and the leaves after it are the map.
 use native.Mathlib.Omega.{arith}
-use Rattle.building.proofs.Outcomes.{root-side, ready-root, ready-again, walks-counting, too_short, n-fits, n-few, header-room, walks-writing, whole}
+use Rattle.cube.proofs.Cubes.{root-small}
+use Rattle.building.proofs.Outcomes.{ready-root, ready-again, count-few, count_fits, leaves-fit, need-fits, too_short, write-room, whole}
+use borrow.Author.Rules.{rules}
 use Rattle.building.proofs.building.stored.Goals as goal
 
-pub cube-top-requires : goal.cube-top-requires
-cube-top-requires c = root-side _ _ c.requires.fact_3
+pub cube-requires : goal.cube-requires
+cube-requires c = search (rules, root-small)
 
-pub walk-end-requires-clause-fact_1 : goal.walk-end-requires-clause-fact_1
-walk-end-requires-clause-fact_1 c = ready-root _ _ c.requires.fact_3 _ _ c.cube-top.ensures c.requires.fact_4 _ _ c.requires.fact_2 _ _ _ _ c.requires.fact_1
+pub count-n-requires : goal.count-n-requires
+count-n-requires c = search (rules, ready-root)
 
-pub walk-end-requires-clause-fact_2 : goal.walk-end-requires-clause-fact_2
-walk-end-requires-clause-fact_2 c = walks-counting _ _ c.requires.fact_3 _ _ c.cube-top.ensures _
+pub overflow_mul-need : goal.overflow_mul-need
+overflow_mul-need c = leaves-fit _ _ c.cube.ensures _ _ c.count-n.ensures c.requires.fact_3
+
+pub overflow_add-need : goal.overflow_add-need
+overflow_add-need c = need-fits _ _ c.cube.ensures _ _ c.count-n.ensures c.requires.fact_3
 
 pub returns-then-out-need : goal.returns-then-out-need
-returns-then-out-need c = too_short _ _ c.requires.fact_3 _ _ c.cube-top.ensures _ _ _ c.walk-end.ensures c.if-out-need.true
+returns-then-out-need c = too_short _ _ c.cube.ensures _ _ c.count-n.ensures _ c.if-out-need.true
 
 pub overflow_cast-n : goal.overflow_cast-n
-overflow_cast-n c = n-fits _ _ c.requires.fact_3 _ _ c.cube-top.ensures _ _ _ c.walk-end.ensures
+overflow_cast-n c = count_fits _ _ c.cube.ensures _ _ c.count-n.ensures c.requires.fact_3
 
 pub put_header-requires-clause-fact_1 : goal.put_header-requires-clause-fact_1
-put_header-requires-clause-fact_1 c = header-room _ _ c.requires.fact_3 _ _ c.cube-top.ensures _ _ _ c.walk-end.ensures (omega (arith, c.if-out-need.false))
+put_header-requires-clause-fact_1 c = omega (arith, c.if-out-need.false)
 
 pub put_header-requires-clause-fact_2 : goal.put_header-requires-clause-fact_2
-put_header-requires-clause-fact_2 c = n-few _ _ c.requires.fact_3 _ _ c.cube-top.ensures _ _ _ c.walk-end.ensures
+put_header-requires-clause-fact_2 c = count-few _ _ c.cube.ensures _ _ c.count-n.ensures c.requires.fact_3
 
-pub walk-end-requires-2-clause-fact_1 : goal.walk-end-requires-2-clause-fact_1
-walk-end-requires-2-clause-fact_1 c = ready-again _ _ c.requires.fact_3 _ _ c.cube-top.ensures c.requires.fact_4 _ _ c.requires.fact_2 _ _ _ _ _ c.walk-end.ensures.1
+pub cube-requires-2 : goal.cube-requires-2
+cube-requires-2 c = root-small _ c.requires.fact_3
 
-pub walk-end-requires-2-clause-fact_2 : goal.walk-end-requires-2-clause-fact_2
-walk-end-requires-2-clause-fact_2 c = walks-writing _ _ c.requires.fact_3 _ _ c.cube-top.ensures _ _ _ c.walk-end.ensures (omega (arith, c.if-out-need.false)) _ c.put_header.ensures
+pub write-end-requires-clause-fact_1 : goal.write-end-requires-clause-fact_1
+write-end-requires-clause-fact_1 c =
+    ready-again _ _ c.cube.ensures _ c.requires.fact_3 c.requires.fact_4 _ _ c.requires.fact_2 _ _ _ _ _ _ c.count-n.ensures _ c.cube-2.ensures
+
+pub write-end-requires-clause-fact_2 : goal.write-end-requires-clause-fact_2
+write-end-requires-clause-fact_2 c = write-room _ _ c.cube.ensures _ _ c.count-n.ensures _ c.if-out-need.false _ c.put_header.ensures _ c.cube-2.ensures
 
 pub returns : goal.returns
 returns c =
-    whole _ _ c.requires.fact_3 _ _ c.cube-top.ensures _ _ _ c.walk-end.ensures (omega (arith, c.if-out-need.false)) _ c.put_header.ensures _ _ c.walk-end-2.ensures
+    whole _ _ c.cube.ensures _ _ c.count-n.ensures _ c.if-out-need.false _ c.put_header.ensures _ c.cube-2.ensures _ _ c.write-end.ensures

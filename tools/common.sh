@@ -1,5 +1,5 @@
 # shellcheck shell=sh
-# What the scripts of this repository share: the tools that they need, the kit's parts, and the lock of the checkout.
+# What the scripts of this repository share: the tools that they need, the kit's parts, how rt is run, and the lock of the checkout.
 # A script sets `me`, its own name, and `top`, the top of the checkout, and then reads this file.
 # shellcheck disable=SC2034,SC2154
 

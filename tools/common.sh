@@ -1,7 +1,7 @@
 # shellcheck shell=sh
 # What the scripts of this repository share: the tools that they need, the kit's parts, and the lock of the checkout.
 # A script sets `me`, its own name, and `top`, the top of the checkout, and then reads this file.
-# shellcheck disable=SC2154
+# shellcheck disable=SC2034,SC2154
 
 # Rust's own installer puts cargo in the home folder, which a bare path lacks.
 HOME=${HOME:-$(getent passwd "$(id -u)" | cut -d: -f6)}
@@ -26,30 +26,67 @@ need_library() { # FILE COMMAND
     exit 2
 }
 
-# Finds the kit's parts for the machine at hand.
+# Finds the kit's parts: rt names a page of the kit by its path, and the tools lie beside it. They are programs for x86-64.
 find_kit() { # PURPOSE
     need_rt "$1"
-    kit=${RATTLE_HOME:-$(cd "$(dirname "$(readlink -f "$(command -v rt)")")/.." && pwd)}
-    own=$kit/on/$(uname -m)
-    tools=$own/toolchain
-    emulator=$tools/bin/qemu-x86_64
-    [ -x "$emulator" ] || emulator=
-    [ -d "$tools" ] && return
+    kit=$(rt doc 2>/dev/null) && kit=$(dirname "$kit")
+    tools=$kit/toolchain linker=$kit/bin/rattle-link
+    [ "$(uname -m)" = x86_64 ] && [ -d "$tools" ] && return
     echo "$me: the Rattle kit at $kit has no toolchain for this machine ($(uname -m))" >&2
     exit 2
 }
 
-# Runs a program that was compiled for x86-64: by the kit's loader and C library, and on another processor by the kit's emulator.
-run_x86_64() { # PROGRAM
-    ${emulator:+"$emulator"} "$tools/lib/ld-linux-x86-64.so.2" --library-path "$tools/lib" "$1"
+# Runs a program that the kit linked, by the kit's loader and C library.
+run_linked() { # PROGRAM
+    "$tools/lib/ld-linux-x86-64.so.2" --library-path "$tools/lib" "$1"
+}
+
+# ---- proving
+# The crates that a crate stands on, and then the crate itself, in the order in which rt proves them.
+crates_of() { # NAME
+    sed 's/#.*//' "$top/crates.txt" | awk -F: -v of="$1" '
+        function visit(name, i, parts, n) {
+            if (!(name in deps) || name in seen) return
+            seen[name] = 1
+            n = split(deps[name], parts, " ")
+            for (i = 1; i <= n; i++) visit(parts[i])
+            print name
+        }
+        split($1, head, " ") { deps[head[1]] = $2 }
+        END { visit(of) }'
+}
+
+# Runs rt on a crate, with $work/pipe read as it writes. Leaves rt's status, and what it wrote there in $work/log. Says on standard error
+# which crates were proved, as rt tells of them. $prover is rt's process while it runs.
+rt_on() { # NAME INPUT OUTPUT COMMAND..
+    crate=$1 input=$2 output=$3 proving=
+    shift 3
+    crates_of "$crate" >"$work/crates"
+    [ -p "$work/pipe" ] || mkfifo "$work/pipe" || exit 2
+    # The pipe comes first: whatever fails, it is opened and closed again.
+    (cd "$top/crates/$crate" && exec rt "$@") 2>"$work/pipe" <"$input" >"$output" &
+    prover=$!
+    while IFS= read -r line; do
+        printf '%s\n' "$line" >&3
+        case $line in
+        'rt: chose --jobs '*' for '*) proving=${line##* } ;;
+        'logic=proved '*)
+            at=$(grep -nxF -- "$proving" "$work/crates")
+            echo "$me: $proving is proved, ${at%%:*} of $(wc -l <"$work/crates")" >&2
+            ;;
+        'rt: waiting for another rt '* | 'rt: '*'; waiting for it'*) echo "$me: ${line#rt: }" >&2 ;;
+        esac
+    done <"$work/pipe" 3>"$work/log"
+    wait "$prover"
+    status=$? prover=
 }
 
 # ---- the lock
-# Two runs of rt at once in one checkout overwrite each other's results, and can call a proved crate not proved. So a script that calls rt
-# there holds the lock of the checkout, and says on standard error when it has to wait for it.
+# An rt waits while another one works on the same crate, but only until that one ends: `rt ci` then moves what it made away. So a script that
+# takes what rt makes in a checkout holds the lock of the checkout, and says on standard error when it has to wait for it.
 #
-# The lock is a flock on the checkout's own folder, since `rt ci` removes target/. The kernel frees it when the last process that was
-# started under it has ended, however they ended: nothing is left behind. `flock . rt check` at the top of the checkout takes the same lock.
+# The lock is a flock on the checkout's own folder, which nothing removes. The kernel frees it when the last process that was started under
+# it has ended, however they ended: nothing is left behind. `flock . rt ci` at the top of the checkout takes the same lock.
 #
 # Where there is no flock, or the file system refuses it, the lock is the symbolic link .lock, made in one step, which names the process
 # that holds it. Once that process is gone the next script takes the lock over. It does not see an rt that outlives a killed script.
@@ -68,7 +105,7 @@ unlock() {
 }
 
 say_waiting() {
-    echo "$me: waiting for another command in this checkout to end (./run, bench/native, .ci/run or flock)" >&2
+    echo "$me: waiting for another command in this checkout to end (./run, tools/staticlib, bench/native, .ci/run or flock)" >&2
 }
 
 lock_by_flock() {

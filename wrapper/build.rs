@@ -9,13 +9,10 @@ fn source() -> (PathBuf, String) {
         return (PathBuf::from(folder), help.to_string());
     }
     let target = Path::new(env!("CARGO_MANIFEST_DIR")).join("../target");
-    let x86_64 = env::var("CARGO_CFG_TARGET_ARCH").as_deref() == Ok("x86_64");
-    let (folder, command) = if x86_64 && env::var_os("CARGO_FEATURE_NATIVE").is_none() {
-        // The archive that is shipped.
-        ("staticlib", "rt staticlib zone")
-    } else {
-        // The same library for the machine at hand, for tests and measuring.
-        ("native", "bench/native")
+    // The archive that is shipped, or one for tests and measuring.
+    let (folder, command) = match env::var_os("CARGO_FEATURE_NATIVE") {
+        None => ("staticlib", "tools/staticlib"),
+        Some(_) => ("native", "bench/native"),
     };
     let help = format!(
         "`{command}` at the top of the repository makes it; or set ZONE_LIB_DIR to the full path of the folder that has it"

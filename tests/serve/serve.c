@@ -21,7 +21,7 @@
 
 #define LARGEST ((size_t)1 << 26)
 #define MOST_POINTS 4096
-/* A request that takes longer stops the server, since every call has to return. The largest takes a minute under the emulator. */
+/* A request that takes longer stops the server, since every call has to return. */
 #define MOST_SECONDS 300
 /* No page on these machines is larger. */
 #define PAGE ((size_t)65536)

@@ -18,7 +18,7 @@ pub struct Made {
 const LARGEST_ONCE_IN: u64 = 20_000;
 const LARGEST_LEAVES: usize = 2_200_000;
 
-/// The first builds, this many, have smaller maps than later ones, so that the gate is quick under an emulator.
+/// The first builds, this many, have smaller maps than later ones, so that the gate is quick.
 const QUICK: u64 = 20_000;
 
 /// The build with a given case number.

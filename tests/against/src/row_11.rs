@@ -32,7 +32,7 @@ impl Compared {
 
 /// Compares all builds of two groups and then, by a limit that is one less, those of the first.
 pub fn run(setup: &Setup, [builds, damaged]: [Group; 2]) -> Result<[Compared; 2], String> {
-    // Build 0 has one of the largest maps, which takes an emulator long. An ordinary one takes its place.
+    // Build 0 has one of the largest maps, which takes long. An ordinary one takes its place.
     let make: Make = |number, random| builds::any(number.max(1), random);
     let builds = Group { make, ..builds };
     let mut all = compare(FURTHEST, &builds, setup)?;

@@ -83,3 +83,7 @@ module _ (n : ℤ) (at r : ℕ) (d o : List ℕ) (f : SFits w64 n) where
   pub field : (m : ℤ) (ns : List ℤ) (q : ℕ) (u : List ℕ) → Puts (signed_text (to_z w64 (of_z w64 n)) ++ (32 ∷ [])) at d r o → Puts (line_of (m ∷ ns)) r o q u → Puts (line_of (n ∷ m ∷ ns)) at d q u
   unfolding line_of
   field m ns q u p k = rw (← append_snoc (signed_text n) 32 (line_of (m ∷ ns))) (both-put _ _ _ _ _ _ _ _ (rw (to_z-of_z f) at p) k)
+
+-- writing the sign keeps the length
+pub sign_kept : (d o : List ℕ) (at v : ℕ) → length o ≡ length (set d at v) → length o ≡ length d
+sign_kept d o at v e = e ∙ length-set d at v

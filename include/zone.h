@@ -4,8 +4,8 @@
    Every call returns a reply for all bytes and all numbers; the caller need not check anything first. The caller provides the memory:
    - A pointer is valid for as many bytes as the length that follows it says. With length 0 it may be null.
    - Nobody else changes these bytes during the call. `out` overlaps no other argument. `sheet` and `map` are only read, and may overlap.
-   - There are 16 KB of stack. zone_refine has been measured to use under 15 KB, zone_build under 14 KB, zone_lookup under 6 KB, zone_check
-     and zone_open under 1 KB.
+   - There are 16 KB of stack. zone_build and zone_refine have been measured to use under 13 KB, zone_lookup under 6 KB, zone_check and
+     zone_open under 1 KB.
 
    No call allocates. The library has no global state, and a call keeps nothing when it returns. So calls may run at the same time, in any
    number of threads, on the same sheet and the same map too, as long as nobody writes to the bytes of either. Each zone_build and each

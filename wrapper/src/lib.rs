@@ -56,7 +56,8 @@ pub fn build(sheet: &[u8], root: Root, out: &mut [u8]) -> Result<usize, Refusal>
 /// Builds the zone map of a sheet into a vector of the map's own length, which may reach 3 GB at depth 10.
 ///
 /// It calls [`build`] twice, the first time without a buffer, to learn the length. So the cubes are counted twice and written once: it
-/// took 1.25 to 1.36 times as long as a [`build`] into a buffer that was there (the rooms of `examples/`, on Arm).
+/// took 1.25 to 1.36 times as long as a [`build`] into a buffer that was there (the rooms of `examples/`, on Arm,
+/// with an older kit).
 pub fn build_vec(sheet: &[u8], root: Root) -> Result<Vec<u8>, Refusal> {
     into_vec(|out| build(sheet, root, out))
 }

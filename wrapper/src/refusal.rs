@@ -140,13 +140,13 @@ impl Display for Refusal {
             ),
             Solid { records: 0 } => write!(f, "the sheet has no records"),
             Solid { records } => write!(f, "the last of the sheet's {records} records is not logical"),
-            Limits => write!(f, "the root or the depth is out of limits, or the depth is smaller than that of the map to refine"),
+            Limits => write!(f, "the root or the depth is out of limits"),
             Map { offset: 0 } => write!(f, "the map's length is not the one that it says"),
             Map { offset: 4 } => write!(f, "the map's version is not 1"),
             Map { offset: 5 } => write!(f, "the map's root or depth is out of limits"),
             Map { offset } => write!(
                 f,
-                "the map's leaf at byte {offset} is bad, by itself or for the sheet that was given, or the leaves stop short there"
+                "the map's leaf at byte {offset} is bad, by itself or for the sheet of a lookup, or the leaves stop short there"
             ),
             OverRoot { record, end } => {
                 let (name, advice) = end.told();

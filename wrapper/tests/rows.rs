@@ -322,13 +322,13 @@ fn a_refusal_has_the_code_and_number_of_document_01() {
     assert_eq!((why.code(), why.number()), (9, 22));
     assert_eq!(
         why.to_string(),
-        "the map's leaf at byte 22 is bad, by itself or for the sheet that was given, or the leaves stop short there"
+        "the map's leaf at byte 22 is bad, by itself or for the sheet of a lookup, or the leaves stop short there"
     );
     let why = refine(SHEET, &map(), 0, &mut []).unwrap_err();
     assert_eq!((why.code(), why.number()), (6, 0));
     assert_eq!(
         why.to_string(),
-        "the root or the depth is out of limits, or the depth is smaller than that of the map to refine"
+        "the root or the depth is out of limits"
     );
     let why = check(&[0, 1, 3]).unwrap_err();
     assert_eq!((why.code(), why.number()), (2, 0));

@@ -153,19 +153,15 @@ def turn(folder, module, listed, crate):
             if eq is None:
                 left.append(b)
                 continue
-            head, _, first = lines[eq].partition("=")
+            first = lines[eq].partition("=")[2]
             body = "\n".join([first.strip(), *lines[eq + 1:]]).strip("\n")
-            extra = "".join(l + "\n" for l in lines[:0])
             if new is None:
                 left.append("-- PORT: no such goal now: " + m[4] + "\n" + b)
                 continue
             if body.strip() in ("search rules", "omega arith") and not unfolding:
                 continue
             body = turn_paths(body, names, names.at[i])
-            if m[2]:
-                t = "t "
-            else:
-                t = ""
+            t = "t " if m[2] else ""
             parts = parts_of(body)
             asked = names.asked.get(names.needs[i][0])
             stem = names.stem
@@ -204,7 +200,6 @@ def turn(folder, module, listed, crate):
             if len(params) != len(to):
                 mark = f"-- PORT: {len(params)} parameters for {len(to)}: {' '.join(to)}\n"
             table = dict(zip(params, to))
-            body = re.sub(r"(?<![\w'₀.-])(" + NAME + r")", lambda m: m[0], body)
             body = re.sub(r"(?<![\w'.₀-])([^\W\d][\w'₀-]*)", lambda m: table.get(m[1], m[1]), body)
             n = f"{m[3]}-{names.stem}{new}"
             invariants.append(f"{mark}abbrev pub {n} : goal.{n}\n{n} l ={body if body.startswith(chr(10)) else ' ' + body.strip()}")

@@ -28,8 +28,7 @@ use Rattle.cube.specs.Limits.{in_limits}
 use Rattle.cube.specs.Cubes.{root_cube}
 use Rattle.cube.proofs.Passed.{passed_root, same-root}
 use Rattle.cube.proofs.Limits.{limits-sizes}
-use Rattle.cube.proofs.Cubes.{near-all}
-use Rattle.carried.proofs.Shorter.{inside-itself}
+use Rattle.cube.proofs.Cubes.{near-all, inside-itself}
 use Rattle.tape.specs.declared.Tape.{Tape}
 use Rattle.tape.specs.Working.{Places}
 use Rattle.tape.specs.Lent.{Lent, Starts}

@@ -5,12 +5,12 @@ use mathlib.Core.List.{List, [], ◌∷◌, map}
 use Prim.Native.Nat.{ℕ}
 use borrow.Author.Tests.{eqb-true, eq-eqb}
 use lib.Dec.{eqb}
-use lib.Signed.{≤ℤ_refl}
-use Rattle.integers.proofs.Order.{by-test, ≤_trans}
+use Rattle.integers.proofs.Order.{by-test}
 use Rattle.sheet.specs.declared.Record.{Record}
 use Rattle.sheet.specs.declared.Record.TheVariants.{Constant, X, Y, Z, Sum, Difference, Product, Square, Face, Both, Either, Complement}
 use Rattle.cube.specs.declared.Cube.{Cube}
 use Rattle.cube.specs.Points.{CubeInside}
+use Rattle.cube.proofs.Cubes.{inside-trans}
 use Rattle.colour.specs.declared.State.{State}
 use Rattle.colour.specs.Bounds.{none, bounds_of}
 use Rattle.colour.specs.States.{is_in, is_out, both_of, either_of, complement_of, state_with}
@@ -20,21 +20,6 @@ use Rattle.colour.proofs.Joined.{is-in, is-out}
 use Rattle.colour.proofs.Turned.{both-in}
 use Rattle.carried.proofs.Narrower.{in_both, either-out, out-either, stays-in, stays_out}
 use Rattle.carried.proofs.Running.{first_read, second-read, more-either, more-old, more-new, listed-old}
-
--- ---- cubes
-pub inside-itself : (q : Cube) → CubeInside q q
-inside-itself q = record { x-low = ≤ℤ_refl _; x-high = ≤ℤ_refl _; y-low = ≤ℤ_refl _; y-high = ≤ℤ_refl _; z-low = ≤ℤ_refl _; z-high = ≤ℤ_refl _ }
-
-pub inside-trans : (q inner outer : Cube) → CubeInside q inner → CubeInside inner outer → CubeInside q outer
-inside-trans q inner outer h k =
-    record {
-      x-low = ≤_trans _ _ _ k.x-low h.x-low;
-      x-high = ≤_trans _ _ _ h.x-high k.x-high;
-      y-low = ≤_trans _ _ _ k.y-low h.y-low;
-      y-high = ≤_trans _ _ _ h.y-high k.y-high;
-      z-low = ≤_trans _ _ _ k.z-low h.z-low;
-      z-high = ≤_trans _ _ _ h.z-high k.z-high;
-    }
 
 -- ---- what is carried to a cube serves all cubes inside it
 module _ (rs : List Record) (inner outer : Cube) (h : CubeInside inner outer) where

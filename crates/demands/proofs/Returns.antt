@@ -10,7 +10,6 @@ use prog.Machine.{done}
 use prog.Memory.{Memory}
 use prog.Model.{Model}
 use prog.Routine.{step}
-use prog.How.{solo}
 use prog.Wired.{Code, Wired}
 use mir.Syntax.{Callee}
 use types.Logic.{Logic, sem}

@@ -1,7 +1,7 @@
 -- The leaves of a refined map run from the root's first place to its last: those that stand, at places of the new depth, and those that are built for the gray
 -- ones. So a refined map opens, and refining it again is refining the old map at once.
 use mathlib.Core.Path.{◌≡◌, refl, sym, ap, ap₂, ◌∙◌}
-use mathlib.Core.Bool.{Bool, true, false, not}
+use mathlib.Core.Bool.{Bool, true, false}
 use mathlib.Core.List.{List, [], ◌∷◌, ◌++◌, append-nil}
 use Prim.Native.Nat.{ℕ, zero, suc, ◌+◌, ◌-◌, ◌*◌, ◌/◌, ◌%◌, ◌^◌, ◌≤◌, ◌<◌}
 use native.Mathlib.Nat.{zero-mul, mul-mod_left, mul-le-mul_right, div-add-mod'}

@@ -19,7 +19,8 @@ use Rattle.tape.specs.Memory.{word_in, words_in, uses_in, state_in}
 use Rattle.tape.specs.Working.{OfSort}
 use Rattle.tape.specs.Shortening.{Shortened}
 use Rattle.tape.specs.Lent.{in_place, AllIn, Carries, Stand, Stays}
-use Rattle.carried.proofs.Shorter.{inside-itself, carried-inner}
+use Rattle.cube.proofs.Cubes.{inside-itself}
+use Rattle.carried.proofs.Shorter.{carried-inner}
 use Rattle.tape.proofs.Shortened.{shortened-carried}
 use Rattle.tape.proofs.Worked.{in_parts}
 use Rattle.tape.proofs.Slices.{slice-later}

@@ -11,7 +11,6 @@ pub mod Renaming
 pub mod Shortened
 pub mod Carrying
 pub mod Packed
-pub mod Walking
 pub mod Putting
 pub mod Placing
 pub mod Starting

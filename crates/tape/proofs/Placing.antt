@@ -28,7 +28,7 @@ use Rattle.carried.specs.Words.{is_logical}
 use Rattle.tape.specs.Listing.{start_of, Placed}
 use Rattle.tape.specs.Memory.{state_in}
 use Rattle.tape.specs.Lent.{is_constant, Lent}
-use Rattle.tape.proofs.Walking.{Walking, walking_start, walking-end, walking-few, walking-next, walking-record}
+use Rattle.records.proofs.Walking.{Walking, walking_start, walking-end, walking-few, walking-next, walking-record}
 
 -- ---- what a record's bounds begin as
 pub constant-arm : (r : Record) (c : ℤ) → r ≡ Constant c → SFits w32 c

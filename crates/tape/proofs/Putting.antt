@@ -19,7 +19,7 @@ use Rattle.carried.specs.Words.{Word, word, own_word, chosen}
 use Rattle.tape.specs.Memory.{word_in}
 use Rattle.tape.specs.Listing.{Packs, is_listed, place_after, tape_after, listed_of, Listed}
 use Rattle.tape.proofs.Packed.{kind-listed, listed-word}
-use Rattle.tape.proofs.Walking.{Walking, walking_start, walking-end, walking-next, walking-record}
+use Rattle.records.proofs.Walking.{Walking, walking_start, walking-end, walking-next, walking-record}
 
 -- ---- one word
 pub put-room : (tape : List ℕ) (to : ℕ) (listed : Bool) → listed ≡ true → place_after listed to ≤ length tape → to < length tape

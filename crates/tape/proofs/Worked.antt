@@ -27,7 +27,7 @@ use Rattle.colour.specs.Entries.{Entry, blank, entry_with, entry_of, entries, fi
 use Rattle.colour.specs.Held.{held_at}
 use Rattle.colour.proofs.Smaller.{none-keep}
 use Rattle.carried.specs.Words.{over, Word, entry_by, AllTrue, more, Closed, listed, Carried, put, is_logical}
-use Rattle.carried.proofs.Shorter.{inside-itself}
+use Rattle.cube.proofs.Cubes.{inside-itself}
 use Rattle.carried.proofs.Running.{right-entry, right-more, run-right, listed-old}
 use Rattle.tape.specs.declared.Tape.{Tape}
 use Rattle.tape.specs.Memory.{word_in, words_in, state_in}

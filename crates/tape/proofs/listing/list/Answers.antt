@@ -2,7 +2,7 @@
 use borrow.Author.Rules.{rules, scaled_Fits, Fits-under}
 use Prim.Native.Nat.{◌-◌}
 use native.Mathlib.Omega.{arith}
-use Rattle.tape.proofs.Walking.{walking-few, walking-fits, walking-listed, walking-stands}
+use Rattle.records.proofs.Walking.{walking-few, walking-fits, walking-listed, walking-stands}
 use Rattle.tape.proofs.Putting.{putting-start, putting-end, putting-room, putting-next}
 use Rattle.tape.proofs.listing.list.Goals as goal
 

@@ -2,7 +2,7 @@
 use borrow.Author.Rules.{rules, scaled_Fits}
 use Prim.Native.Nat.{◌-◌}
 use native.Mathlib.Omega.{arith}
-use Rattle.tape.proofs.Walking.{walking-few, walking-fits, walking-listed, walking-stands}
+use Rattle.records.proofs.Walking.{walking-few, walking-fits, walking-listed, walking-stands}
 use Rattle.tape.proofs.Placing.{placing-start, placing-end, placing-low, placing-high, placing-class, placing-next}
 use Rattle.tape.proofs.listing.place.Goals as goal
 

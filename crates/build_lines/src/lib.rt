@@ -10,13 +10,7 @@ pub const FILLED: u8 = 170;
 
 // Answers all lines of an input by `zone_build`.
 pub fn answer_all(rt: &impl Print, input: &[u8]) {
-    let mut vector = [0u8; 640];
-    let mut at = 0;
-    while at < input.len() {
-        let line = vectors::read_line(rt, input, at, &mut vector);
-        build_from(rt, &vector[..line.size]);
-        at = line.next;
-    }
+    vectors::answer_all(rt, input, |vector| build_from(rt, vector));
 }
 
 // A vector is the bytes of X, Y, Z, k, d, the number of bytes lent, and the sheet. One that is too short leaves its line without an answer.
@@ -60,15 +54,13 @@ pub fn answer(rt: &impl Print, code: u32, number: u64, out: &[u8]) {
 
 // Writes the first n bytes.
 fn show(rt: &impl Print, out: &[u8], n: usize) {
-    for i in 0..out.len() {
-        if n <= i {
-            return;
-        }
-        byte(rt, out[i]);
+    for b in out.iter().take(n) {
+        byte(rt, *b);
     }
 }
 
 // Whether all bytes from the n-th on still have the fill value.
+// By indices, since with a chain of iterators `rt try` of `build_vectors` takes more than the 20 million steps that it interprets.
 fn is_filled(out: &[u8], n: usize) -> bool {
     for i in n..out.len() {
         if out[i] != FILLED {

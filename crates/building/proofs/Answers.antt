@@ -1,4 +1,5 @@
 -- What follows if building is done: the sheet is good, no row refuses, and the map is at the start of the lent buffer.
+use Rattle.std.specs.Prelude.{Err, Ok}
 use mathlib.Core.Path.{◌≡◌, refl, ap, ◌∙◌}
 use mathlib.Core.Bool.{Bool, true, false, true≢false}
 use mathlib.Core.List.{List, [], ◌++◌}
@@ -9,8 +10,7 @@ use lib.Dec.{ltb}
 use lib.ListN.{length, drop}
 use Rattle.integers.proofs.Order.{by-test}
 use Rattle.replies.specs.declared.Refusal.TheVariants.{Limits, OverRoot, Short}
-use Rattle.replies.specs.declared.Reply.{Reply}
-use Rattle.replies.specs.declared.Reply.TheVariants.{Done, Refused}
+use Rattle.replies.specs.Table.{Reply}
 use Rattle.replies.specs.Table.{refusal_of}
 use Rattle.sheet.specs.declared.Record.{Record}
 use Rattle.sheet.specs.Records.{records_of}
@@ -24,16 +24,16 @@ use Rattle.integers.proofs.First.{none_first}
 use Rattle.building.specs.Build.{Outcome, outcome, stored_of, over_root_with, build_with}
 
 abbrev is_done : Reply → Bool
-is_done (Done n) = true
-is_done (Refused why) = false
+is_done (Ok n) = true
+is_done (Err why) = false
 
 abbrev count_of : Reply → ℕ
-count_of (Done n) = n
-count_of (Refused why) = 0
+count_of (Ok n) = n
+count_of (Err why) = 0
 
 module _ (n : ℕ) (out after : List ℕ) where
   abbrev done : Outcome
-  done = outcome (Done n) after
+  done = outcome (Ok n) after
 
   pub no_other : {A : Type 0} (o : Outcome) → is_done o.reply ≡ false → done ≡ o → A
   no_other o h e = absurd (true≢false (ap (λ (o : Outcome). is_done o.reply) e ∙ h))
@@ -46,7 +46,7 @@ module _ (n : ℕ) (out after : List ℕ) where
   unfolding stored_of
   stored map e =
       by-test (ltb (length out) (length map))
-      (λ h. no_other (outcome (Refused (Short (length map))) out) refl (rw h at e))
+      (λ h. no_other (outcome (Err (Short (length map))) out) refl (rw h at e))
       (λ h. (ap (λ (o : Outcome). count_of o.reply) (rw h at e), ltb-false (length out) (length map) h, ap (λ (o : Outcome). o.buffer) (rw h at e)))
 
   -- no row refuses, and the map is at the start of the buffer
@@ -70,13 +70,13 @@ module _ (n : ℕ) (out after : List ℕ) where
     unfolding over_root_with
     solid-made e =
         by-test (in_limits root)
-        (λ h. stored-made h (not_first (first_past rs (root_cube root)) (λ k. outcome (Refused (OverRoot k)) out) _ (λ k. refl) (rw h at e)))
-        (λ h. no_other (outcome (Refused Limits) out) refl (rw h at e))
+        (λ h. stored-made h (not_first (first_past rs (root_cube root)) (λ k. outcome (Err (OverRoot k)) out) _ (λ k. refl) (rw h at e)))
+        (λ h. no_other (outcome (Err Limits) out) refl (rw h at e))
 
 module _ (map_over : List Record → Root → List ℕ) (s : List ℕ) (root : Root) (out after : List ℕ) (n : ℕ) where
   -- the sheet is good, and its map is at the start of the buffer
-  pub done-made : outcome (Done n) after ≡ build_with map_over s root out → (refusal_of (check_of s) ≡ []) × Made n out after (records_of s) root (map_over (records_of s) root)
+  pub done-made : outcome (Ok n) after ≡ build_with map_over s root out → (refusal_of (check_of s) ≡ []) × Made n out after (records_of s) root (map_over (records_of s) root)
   unfolding build_with
   done-made e =
-      let t = not_first n out after (refusal_of (check_of s)) (λ why. outcome (Refused why) out) _ (λ why. refl) e in
+      let t = not_first n out after (refusal_of (check_of s)) (λ why. outcome (Err why) out) _ (λ why. refl) e in
       (t.0, solid-made n out after map_over (records_of s) root t.1)

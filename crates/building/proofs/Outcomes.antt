@@ -1,4 +1,5 @@
 -- The outcome of building at each test, and what the functions on the way require.
+use Rattle.std.specs.Prelude.{Err, Ok, Result}
 use mathlib.Core.Path.{◌≡◌, refl, sym, ap, ◌∙◌}
 use mathlib.Core.Bool.{Bool, true, false, not}
 use mathlib.Core.List.{List, []}
@@ -15,8 +16,7 @@ use Rattle.integers.proofs.Stores.{sets-append}
 use Rattle.replies.specs.declared.Refusal.{Refusal}
 use Rattle.replies.specs.declared.Over.{Over}
 use Rattle.replies.specs.declared.Refusal.TheVariants.{Limits, OverRoot, Short}
-use Rattle.replies.specs.declared.Reply.{Reply}
-use Rattle.replies.specs.declared.Reply.TheVariants.{Done, Refused}
+use Rattle.replies.specs.Table.{Reply}
 use Rattle.sheet.specs.declared.Record.{Record}
 use Rattle.sheet.specs.Records.{records_of}
 use Rattle.sheet.specs.Check.{check_of}
@@ -34,8 +34,6 @@ use Rattle.tape.specs.Working.{Places}
 use Rattle.tape.specs.Lent.{Lent, Starts}
 use Rattle.tape.proofs.Carrying.{carries-inner}
 use Rattle.colour.specs.declared.State.{State}
-use Rattle.colour.specs.declared.Judged.{Judged}
-use Rattle.colour.specs.declared.Judged.TheVariants.{Known, Past}
 use Rattle.colour.specs.Entries.{judged_of, first_past}
 use Rattle.colour.proofs.Told.{known-none, past_first}
 use Rattle.zonemap.specs.declared.Leaf.{Leaf}
@@ -48,11 +46,11 @@ use Rattle.tree.proofs.Cubes.{leaves-few}
 
 -- ---- replies 1 to 5: r is what `check` returned
 module _ (s : List ℕ) (r : Reply) (e : r ≡ check_of s) where
-  pub bad-sheet : (why : Refusal) → r ≡ Refused why → (root : Root) (d : List ℕ) → outcome (Refused why) d ≡ build_of s root d
+  pub bad-sheet : (why : Refusal) → r ≡ Err why → (root : Root) (d : List ℕ) → outcome (Err why) d ≡ build_of s root d
   unfolding build_with
   bad-sheet why h root d = rw (sym e ∙ h)
 
-  module _ (n : ℕ) (h : r ≡ Done n) where
+  module _ (n : ℕ) (h : r ≡ Ok n) where
     -- the number of the last record
     last-is : n - 1 + 1 ≡ n
     last-is = omega (arith, good-some s r e n h)
@@ -60,8 +58,8 @@ module _ (s : List ℕ) (r : Reply) (e : r ≡ check_of s) where
     pub last_fits : Fits w8 (n - 1)
     last_fits = record { fits = omega (arith, last-is, good-count s r e n h, records-few s) }
 
-    pub checked : check_of s ≡ Done (n - 1 + 1)
-    checked = sym e ∙ h ∙ ap Done (sym last-is)
+    pub checked : check_of s ≡ Ok (n - 1 + 1)
+    checked = sym e ∙ h ∙ ap Ok (sym last-is)
 
     pub good-sheet : (x y z : ℤ) → SFits w32 x → SFits w32 y → SFits w32 z → (k depth : ℕ) (d : List ℕ) (o : Outcome)
         → o ≡ over_root_of (records_of s) (passed_root x y z k depth) d
@@ -70,12 +68,12 @@ module _ (s : List ℕ) (r : Reply) (e : r ≡ check_of s) where
     good-sheet x y z fx fy fz k depth d o g = rw (sym e ∙ h) (rw (same-root x y z fx fy fz k depth) at g)
 
 -- a good sheet's number of records
-pub checked-count : (s : List ℕ) (n : ℕ) → check_of s ≡ Done n → n ≡ length (records_of s)
+pub checked-count : (s : List ℕ) (n : ℕ) → check_of s ≡ Ok n → n ≡ length (records_of s)
 checked-count s n h = good-count s (check_of s) refl n h
 
 -- ---- reply 6: b is what `is_within` returned
 module _ (root : Root) (b : Bool) (e : b ≡ in_limits root) where
-  pub outside : not b ≡ true → (rs : List Record) (d : List ℕ) → outcome (Refused Limits) d ≡ over_root_of rs root d
+  pub outside : not b ≡ true → (rs : List Record) (d : List ℕ) → outcome (Err Limits) d ≡ over_root_of rs root d
   unfolding over_root_with
   outside t rs d = rw (sym e ∙ not-true b t)
 
@@ -83,12 +81,12 @@ module _ (root : Root) (b : Bool) (e : b ≡ in_limits root) where
   within t = sym e ∙ not-false b t
 
 -- ---- reply 7: q is what `cube` returned, and j what `judge` did
-module _ (root : Root) (w : in_limits root ≡ true) (q : Cube) (is : q ≡ root_cube root) (rs : List Record) (solid : ℕ) (j : Judged) (e : j ≡ judged_of rs q solid) where
-  pub over_root_lem : (o : Over) → j ≡ Past o → (d : List ℕ) → outcome (Refused (OverRoot o)) d ≡ over_root_of rs root d
+module _ (root : Root) (w : in_limits root ≡ true) (q : Cube) (is : q ≡ root_cube root) (rs : List Record) (solid : ℕ) (j : Result State Over) (e : j ≡ judged_of rs q solid) where
+  pub over_root_lem : (o : Over) → j ≡ Err o → (d : List ℕ) → outcome (Err (OverRoot o)) d ≡ over_root_of rs root d
   unfolding over_root_with
   over_root_lem o h d = rw (w, past_first rs (root_cube root) q is solid j e o h)
 
-  pub under-limit : (state : State) → j ≡ Known state → (d : List ℕ) (o : Outcome) → o ≡ stored_of (built_map rs root) d → o ≡ over_root_of rs root d
+  pub under-limit : (state : State) → j ≡ Ok state → (d : List ℕ) (o : Outcome) → o ≡ stored_of (built_map rs root) d → o ≡ over_root_of rs root d
   unfolding over_root_with
   under-limit state h d o k = rw (w, known-none rs (root_cube root) q is solid j e state h) k
 
@@ -134,7 +132,7 @@ module _ (root : Root) (q : Cube) (is : q ≡ root_cube root) (rs : List Record)
     unfolding map_by
     length-is = map-length root _ ∙ rw (count, is)
 
-    pub too_short : (d : List ℕ) → length d < 19 + 3 * n → outcome (Refused (Short (19 + 3 * n))) d ≡ stored_of (built_map rs root) d
+    pub too_short : (d : List ℕ) → length d < 19 + 3 * n → outcome (Err (Short (19 + 3 * n))) d ≡ stored_of (built_map rs root) d
     unfolding stored_of
     too_short d h = rw (length-is, lt-ltb (length d) (19 + 3 * n) h)
 
@@ -161,8 +159,8 @@ module _ (root : Root) (q : Cube) (is : q ≡ root_cube root) (rs : List Record)
             ∙ sets-append d 0 19 (header_of root n) (leaves_bytes ls) (omega (arith, header-length root n))
             ∙ rw (count-is, same)
 
-        pub whole : outcome (Done (19 + 3 * n)) d₂ ≡ stored_of (built_map rs root) d
+        pub whole : outcome (Ok (19 + 3 * n)) d₂ ≡ stored_of (built_map rs root) d
         unfolding stored_of
         whole =
             rw (length-is, le-ltb (length d) (19 + 3 * n) room)
-            (ap (outcome (Done (19 + 3 * n))) (stored ∙ sets-eq (built_map rs root) d 0 (omega (arith, length-is)) ∙ rw (zero-add, length-is)))
+            (ap (outcome (Ok (19 + 3 * n))) (stored ∙ sets-eq (built_map rs root) d 0 (omega (arith, length-is)) ∙ rw (zero-add, length-is)))

@@ -1,7 +1,6 @@
 // The public call: the replies in order of test, then the map.
 
-ghost use Rattle.std.specs.Prelude.{◌≡◌, ◌+◌, true, []};
-ghost use Rattle.replies.specs.declared.Reply.TheVariants.{Done};
+ghost use Rattle.std.specs.Prelude.{◌≡◌, ◌+◌, true, [], Ok};
 ghost use Rattle.sheet.specs.Records.{records_of};
 ghost use Rattle.sheet.specs.Check.{check_of};
 ghost use Rattle.records.specs.Offsets.{Offsets};
@@ -11,51 +10,52 @@ ghost use Rattle.colour.specs.Entries.{first_past};
 ghost use Rattle.tape.specs.Lent.{Lent, Starts};
 ghost use Rattle.building.specs.Build.{outcome, built_map, stored_of, over_root_of, build_of};
 
-use colour::Judged;
 use cube::Root;
-use replies::{Refusal, Reply};
+use replies::Refusal;
 use tape::Tape;
 
 // Builds the zone map of a sheet over a root at the start of `out`. A refusal leaves `out` unchanged.
-pub fn build(sheet: &[u8], x: i32, y: i32, z: i32, k: u8, d: u8, out: &mut [u8]) -> Reply
+pub fn build(
+    sheet: &[u8],
+    x: i32,
+    y: i32,
+    z: i32,
+    k: u8,
+    d: u8,
+    out: &mut [u8],
+) -> Result<usize, Refusal>
     ensures { outcome result out.new ≡ build_of sheet.now (record { x = x; y = y; z = z; k = k; d = d }) out.old }
 {
     let root = Root { x, y, z, k, d };
-    match sheet::check(sheet) {
-        Reply::Done(n) => {
-            return over_root(sheet, (n - 1) as u8, root, out);
-        }
-        Reply::Refused(why) => {
-            return Reply::Refused(why);
-        }
-    }
+    let count = sheet::check(sheet)?;
+    over_root(sheet, (count - 1) as u8, root, out)
 }
 
 // Replies 6 and 7, then the rest. Only the root can be refused for the limit: if no record passes it there, none does over a smaller cube.
-fn over_root(sheet: &[u8], solid: u8, root: Root, out: &mut [u8]) -> Reply
-    requires { check_of sheet.now ≡ Done (solid + 1) }
+fn over_root(sheet: &[u8], solid: u8, root: Root, out: &mut [u8]) -> Result<usize, Refusal>
+    requires { check_of sheet.now ≡ Ok (solid + 1) }
     ensures { outcome result out.new ≡ over_root_of (records_of sheet.now) root out.old }
 {
     if !root.is_within() {
-        return Reply::Refused(Refusal::Limits);
+        return Err(Refusal::Limits);
     }
     let count = solid as usize + 1;
     let mut offsets = [0u16; 256];
     records::list_offsets(sheet, count, &mut offsets);
-    match colour::judge(sheet, &offsets, count, root.cube(), solid) {
-        Judged::Known(_) => {
-            return started(sheet, &offsets, count, root, out);
-        }
-        Judged::Past(over) => {
-            return Reply::Refused(Refusal::OverRoot(over));
-        }
-    }
+    colour::judge(sheet, &offsets, count, root.cube(), solid).map_err(Refusal::OverRoot)?;
+    started(sheet, &offsets, count, root, out)
 }
 
 // The walks below the root share one tape and one place for each record's bounds and state, which lie here.
-fn started(sheet: &[u8], offsets: &[u16], count: usize, root: Root, out: &mut [u8]) -> Reply
+fn started(
+    sheet: &[u8],
+    offsets: &[u16],
+    count: usize,
+    root: Root,
+    out: &mut [u8],
+) -> Result<usize, Refusal>
     requires fact_1 { Offsets offsets.now sheet.now }
-    requires fact_2 { check_of sheet.now ≡ Done count }
+    requires fact_2 { check_of sheet.now ≡ Ok count }
     requires fact_3 { in_limits root ≡ true }
     requires fact_4 { first_past (records_of sheet.now) (root_cube root) ≡ [] }
     ensures { outcome result out.new ≡ stored_of (built_map (records_of sheet.now) root) out.old }
@@ -99,7 +99,7 @@ fn stored(
     t: Tape,
     root: Root,
     out: &mut [u8],
-) -> Reply
+) -> Result<usize, Refusal>
     requires fact_1 { Lent (records_of sheet.now) low.old high.old classes.old faces.old }
     requires fact_2 { Starts (records_of sheet.now) tape.old t }
     requires fact_3 { in_limits root ≡ true }
@@ -119,7 +119,7 @@ fn stored(
     );
     let need = zonemap::HEADER + 3 * n;
     if out.len() < need {
-        return Reply::Refused(Refusal::Short(need));
+        return Err(Refusal::Short(need));
     }
     zonemap::put_header(out, root, n as u32);
     let _end = tree::write(
@@ -135,5 +135,5 @@ fn stored(
         root.cube(),
         root.d,
     );
-    Reply::Done(need)
+    Ok(need)
 }

@@ -3,15 +3,9 @@
 #![tactic(auto)]
 
 fn main(rt: HostRuntime) {
-    let mut input = [0u8; 65536];
-    let n = buffers::read_full(&mut rt.stdin(), &mut input);
-    let mut vector = [0u8; 640];
-    let mut at = 0;
-    while at < n {
-        let line = vectors::read_line(&rt, &input[..n], at, &mut vector);
-        check_from(&rt, &vector[..line.size]);
-        at = line.next;
-    }
+    vectors::with_input::<65536, _, _>(&mut rt.stdin(), |input| {
+        vectors::answer_all(&rt, input, |vector| check_from(&rt, vector));
+    });
 }
 
 // A vector is the bytes of the sheet.

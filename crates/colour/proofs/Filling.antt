@@ -1,4 +1,5 @@
 -- The loop that computes the bounds and states of all records over a cube: the first n records are done, and four arrays hold what is known of them.
+use Rattle.std.specs.Prelude.{Err, Ok, Result, Some}
 use mathlib.Core.Path.{◌≡◌, refl, sym, ap, ◌∙◌}
 use mathlib.Core.List.{List, [], ◌∷◌, ◌++◌}
 use Prim.Native.Nat.{ℕ, ◌+◌, ◌≤◌, ◌<◌}
@@ -9,8 +10,6 @@ use mir.Val.{to_z, of_z}
 use lib.ListN.{length, get_or, take, set, replicate, length-set, length-take}
 use lib.Seq.{take_all, get_or-take, get_or_at}
 use Rattle.interval.specs.declared.Interval.{Interval}
-use Rattle.interval.specs.declared.Bounded.{Bounded}
-use Rattle.interval.specs.declared.Bounded.TheVariants.{Within, Past as Beyond}
 use Rattle.interval.specs.Rules.{from}
 use Rattle.interval.specs.Limit.{SmallEnds, past_end, bounded_of}
 use Rattle.interval.proofs.Limit.{limit-back}
@@ -19,7 +18,6 @@ use Rattle.replies.specs.declared.End.{End}
 use Rattle.replies.specs.Table.{over}
 use Rattle.sheet.specs.declared.Record.{Record}
 use Rattle.sheet.specs.declared.Record.TheVariants.{X}
-use Rattle.sheet.specs.declared.Row.TheVariants.{Known as IsRecord}
 use Rattle.sheet.specs.Table.{row_at}
 use Rattle.sheet.specs.Records.{records_of}
 use Rattle.sheet.specs.Operands.{first_of, second_of}
@@ -31,7 +29,6 @@ use Rattle.records.specs.Offsets.{Offsets}
 use Rattle.records.proofs.Walking.{Walking, walking_start, walking-few, walking-before, walking-next}
 use Rattle.cube.specs.declared.Cube.{Cube}
 use Rattle.colour.specs.declared.State.{State}
-use Rattle.colour.specs.declared.Judged.TheVariants.{Known, Past}
 use Rattle.colour.specs.Bounds.{bounds_of}
 use Rattle.colour.specs.States.{class_of, face_of, state_of}
 use Rattle.colour.specs.Held.{Held, held_at, state_by}
@@ -101,15 +98,15 @@ module _ (s offsets : List ℕ) (count : ℕ) (q : Cube) (low high : List ℤ) (
   coloured a = rw (w.classed a, w.faced a) (back-again (known a).state)
 
   -- at the end all records are done
-  pub judged-end : (which : ℕ) (k : State) → count ≤ n → k ≡ stated which → Known k ≡ judged_of rs q which
+  pub judged-end : (which : ℕ) (k : State) → count ≤ n → k ≡ stated which → Ok k ≡ judged_of rs q which
   unfolding judged_of first_past
   judged-end which k h e =
       let t : take n rs ≡ rs = take_all n rs (omega (arith, w.walk.all)) in
       let p : past_from 0 (entries q rs) ≡ [] = rw t at (none-past 0 (done s q n) w.keep) in
-      rw p (ap Known (e ∙ coloured which ∙ ap (λ (l : List Record). (get_or (entries q l) which blank).state) t))
+      rw p (ap Ok (e ∙ coloured which ∙ ap (λ (l : List Record). (get_or (entries q l) which blank).state) t))
 
   -- one record more: r stands at its offset
-  module _ (left : n < count) (r : Record) (row : row_at s (get_or offsets n 0) ≡ IsRecord r) where
+  module _ (left : n < count) (r : Record) (row : row_at s (get_or offsets n 0) ≡ Some r) where
     more : n < length rs
     more = omega (arith, w.walk.all)
 
@@ -150,14 +147,14 @@ module _ (s offsets : List ℕ) (count : ℕ) (q : Cube) (low high : List ℤ) (
         ∙ ap (λ (l : List Entry). get_or l n blank) (take-along (entry_of q) rs (n + 1) (omega arith) ∙ grown)
         ∙ get_or_at (done s q n) this [] blank n long
 
-    module _ (got : Bounded) (eb : got ≡ bounded_of (bounds_of q (held_at low high first) (held_at low high second) r)) where
-      pub judged-past : (which : ℕ) (end : End) → got ≡ Beyond end → Past (over n end) ≡ judged_of rs q which
+    module _ (got : Result Interval End) (eb : got ≡ bounded_of (bounds_of q (held_at low high first) (held_at low high second) r)) where
+      pub judged-past : (which : ℕ) (end : End) → got ≡ Err end → Err (over n end) ≡ judged_of rs q which
       unfolding judged_of
       judged-past which end h =
           let f : past_end this.bounds ≡ end ∷ [] = rw bounds-are at (past_is got (bounds_of q (held_at low high first) (held_at low high second) r) eb end h) in
           rw (past-at rs q n end earlier (rw at_n f))
 
-      module _ (v : Interval) (ev : got ≡ Within v) where
+      module _ (v : Interval) (ev : got ≡ Ok v) where
         exact : v ≡ this.bounds
         exact = within-is got (bounds_of q (held_at low high first) (held_at low high second) r) eb v ev ∙ bounds-are
 

@@ -1,5 +1,5 @@
 -- What is known of each record over a cube, record by record, and the limit.
-use Rattle.std.specs.Prelude.{ℕ, suc, List, [], ◌∷◌, length, get_or}
+use Rattle.std.specs.Prelude.{ℕ, suc, List, [], ◌∷◌, length, get_or, Err, Ok, Result}
 use Rattle.integers.specs.First.{on_first}
 use Rattle.interval.specs.declared.Interval.{Interval}
 use Rattle.interval.specs.Limit.{past_end}
@@ -11,8 +11,6 @@ use Rattle.sheet.specs.Along.{along}
 use Rattle.cube.specs.declared.Cube.{Cube}
 use Rattle.colour.specs.declared.State.{State}
 use Rattle.colour.specs.declared.State.TheVariants.{Out}
-use Rattle.colour.specs.declared.Judged.{Judged}
-use Rattle.colour.specs.declared.Judged.TheVariants.{Known, Past}
 use Rattle.colour.specs.Bounds.{none, bounds_of}
 use Rattle.colour.specs.States.{otherwise_of, state_with}
 
@@ -57,5 +55,5 @@ unfoldable pub first_past : List Record → Cube → List Over
 first_past rs q = past_from 0 (entries q rs)
 
 -- the state of record n over a cube, or the first record whose bounds pass 2^60, with the end that does
-unfoldable pub judged_of : List Record → Cube → ℕ → Judged
-judged_of rs q n = on_first (first_past rs q) Past (Known (get_or (entries q rs) n blank).state)
+unfoldable pub judged_of : List Record → Cube → ℕ → Result State Over
+judged_of rs q n = on_first (first_past rs q) Err (Ok (get_or (entries q rs) n blank).state)

@@ -10,7 +10,8 @@ ghost use Rattle.colour.specs.Held.{Held, held_at, state_by};
 
 use crate::{State, states};
 use cube::Cube;
-use interval::{Bounded, Interval};
+use interval::Interval;
+use replies::End;
 use sheet::Record;
 
 // The bounds of a coordinate.
@@ -36,27 +37,27 @@ pub fn held_at<'a>(low: &'a [i64], high: &'a [i64], a: u8) -> Interval
 }
 
 // The bounds of a record, from those of the records before it.
-pub fn bounds<'a>(r: Record, q: Cube, low: &'a [i64], high: &'a [i64]) -> Bounded
+pub fn bounds<'a>(r: Record, q: Cube, low: &'a [i64], high: &'a [i64]) -> Result<Interval, End>
     requires fact_1 { Near 0 q }
     requires fact_2 { Held low.now high.now }
     ensures { result ≡ bounded_of (bounds_of q (held_at low.now high.now (first_of r)) (held_at low.now high.now (second_of r)) r) }
 {
     match r {
-        Record::Constant(c) => Bounded::Within(Interval {
+        Record::Constant(c) => Ok(Interval {
             low: c as i64,
             high: c as i64,
         }),
-        Record::X => Bounded::Within(across(q.x, q.side)),
-        Record::Y => Bounded::Within(across(q.y, q.side)),
-        Record::Z => Bounded::Within(across(q.z, q.side)),
+        Record::X => Ok(across(q.x, q.side)),
+        Record::Y => Ok(across(q.y, q.side)),
+        Record::Z => Ok(across(q.z, q.side)),
         Record::Sum(a, b) => held_at(low, high, a).sum(held_at(low, high, b)),
         Record::Difference(a, b) => held_at(low, high, a).difference(held_at(low, high, b)),
         Record::Product(a, b) => held_at(low, high, a).product(held_at(low, high, b)),
         Record::Square(a) => held_at(low, high, a).square(),
-        Record::Face(_, _) => Bounded::Within(Interval { low: 0, high: 0 }),
-        Record::Both(_, _) => Bounded::Within(Interval { low: 0, high: 0 }),
-        Record::Either(_, _) => Bounded::Within(Interval { low: 0, high: 0 }),
-        Record::Complement(_) => Bounded::Within(Interval { low: 0, high: 0 }),
+        Record::Face(_, _) => Ok(Interval { low: 0, high: 0 }),
+        Record::Both(_, _) => Ok(Interval { low: 0, high: 0 }),
+        Record::Either(_, _) => Ok(Interval { low: 0, high: 0 }),
+        Record::Complement(_) => Ok(Interval { low: 0, high: 0 }),
     }
 }
 

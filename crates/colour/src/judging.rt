@@ -6,14 +6,13 @@ ghost use Rattle.records.specs.Offsets.{Offsets};
 ghost use Rattle.cube.specs.Limits.{Near};
 ghost use Rattle.colour.specs.Entries.{judged_of};
 
-use crate::{Bounds, Judged, entries, states};
+use crate::{Bounds, State, entries, states};
 use cube::Cube;
-use interval::Bounded;
 use replies::Over;
 
 // The state of record `which` over a cube, or the first of the sheet's `count` records whose bounds pass the limit. The bounds are filled in place, since
 // copying them for each record would cost more than the rules.
-pub fn judge(s: &[u8], offsets: &[u16], count: usize, q: Cube, which: u8) -> Judged
+pub fn judge(s: &[u8], offsets: &[u16], count: usize, q: Cube, which: u8) -> Result<State, Over>
     requires fact_1 { Offsets offsets.now s.now }
     requires fact_2 { count ≡ length (records_of s.now) }
     requires fact_3 { Near 0 q }
@@ -31,10 +30,8 @@ pub fn judge(s: &[u8], offsets: &[u16], count: usize, q: Cube, which: u8) -> Jud
         let index = n as u8;
         let r = records::record_at(s, offsets[n] as usize);
         let v = match entries::bounds(r, q, &b.low, &b.high) {
-            Bounded::Within(v) => v,
-            Bounded::Past(end) => {
-                return Judged::Past(Over { index, end });
-            }
+            Ok(v) => v,
+            Err(end) => return Err(Over { index, end }),
         };
         let state = entries::state(r, index, &b.low, &b.high, &classes, &faces);
         classes[n] = state.class();
@@ -45,5 +42,5 @@ pub fn judge(s: &[u8], offsets: &[u16], count: usize, q: Cube, which: u8) -> Jud
         b.high[n] = high;
         b.count = n + 1;
     }
-    Judged::Known(states::state_at(&classes, &faces, which))
+    Ok(states::state_at(&classes, &faces, which))
 }

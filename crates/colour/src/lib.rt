@@ -8,7 +8,6 @@ mod states;
 
 pub use entries::{across, held_at};
 pub use judging::judge;
-use replies::Over;
 pub use states::{face_state, state_at};
 
 // What is known of a logical record over a cube: it holds nowhere in the cube; it holds all over it; it holds exactly where one face does; it holds exactly
@@ -28,11 +27,4 @@ pub struct Bounds {
     pub low: [i64; 256],
     pub high: [i64; 256],
     pub count: usize,
-}
-
-// The state of a record over a cube, or the first record whose bounds pass the limit, with the end that does.
-#[derive(Clone, Copy)]
-pub enum Judged {
-    Known(State),
-    Past(Over),
 }

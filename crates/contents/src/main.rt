@@ -12,10 +12,10 @@ fn main(rt: HostRuntime) {
 
 fn tell(rt: &impl Print, s: &[u8]) {
     match sheet::check(s) {
-        replies::Reply::Done(_) => {
+        Ok(_) => {
             records(rt, s);
         }
-        replies::Reply::Refused(why) => {
+        Err(why) => {
             let _refused = rt.write_all(b"refused");
             number(rt, why.code() as u64);
             number(rt, why.number() as u64);
@@ -28,7 +28,7 @@ fn records(rt: &impl Print, s: &[u8]) {
     let mut c = sheet::Cursor::start();
     let mut n = 0;
     loop {
-        let sheet::Read::Found(r, next) = c.read(s) else {
+        let Ok((r, next)) = c.read(s) else {
             return;
         };
         heading(rt, n, c.at);

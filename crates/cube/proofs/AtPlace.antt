@@ -14,7 +14,8 @@ use Rattle.cube.specs.Limits.{in_limits}
 use Rattle.cube.specs.Cubes.{root_cube, half, corner_of, low_at, cube_at}
 use Rattle.cube.specs.Points.{axis_holds, holds_point, place_by, steps_to, place_of}
 use Rattle.cube.proofs.Corners.{half-below, half-zero, times_eight}
-use Rattle.cube.proofs.Cubes.{at-sizes, side-is}
+use Rattle.cube.proofs.Limits.{limits-sizes}
+use Rattle.cube.proofs.Cubes.{side-is}
 use Rattle.cube.proofs.Places.{axis-between, axis-holds, gap-added, gap_below, axes, point-x, point-y, point-z}
 
 -- ---- counted in smallest cubes
@@ -116,7 +117,7 @@ module _ (r : Root) (i : in_limits r ≡ true) (low v : ℤ) (h : axis_holds low
 
   steps-below : steps_to r low v < 2 ^ r.d
   steps-below =
-      let e : r.k ≡ r.d + (r.k - r.d) = omega (arith, at-sizes r i) in
+      let e : r.k ≡ r.d + (r.k - r.d) = omega (arith, (limits-sizes r i).2) in
       (div-lt_iff_lt-mul {k = Unit} {x = Gap} {y = 2 ^ r.d} (pow_pos (r.k - r.d))).1 (rw (← pow-add 2 r.d (r.k - r.d), ← e) (gap_below low v _ h))
 
   module _ (axis n level place : ℕ) (e : level + n ≡ r.d) where
@@ -128,12 +129,12 @@ module _ (r : Root) (i : in_limits r ≡ true) (low v : ℤ) (h : axis_holds low
     axis-held w =
         let l = (le-div_iff_mul-le {k = Unit} {x = Corner} {y = Gap} (pow_pos (r.k - r.d))).0 w.0 in
         let u = (div-lt_iff_lt-mul {k = Unit} {x = Gap} {y = Corner + 2 ^ n} (pow_pos (r.k - r.d))).0 w.1 in
-        rw (side-is r (at-sizes r i) level n e) (axis-moved low v (axis-between _ _ _ h).0 (Corner * Unit) (2 ^ n * Unit) l (omega (arith, u)))
+        rw (side-is r (limits-sizes r i).2 level n e) (axis-moved low v (axis-between _ _ _ h).0 (Corner * Unit) (2 ^ n * Unit) l (omega (arith, u)))
 
     axis-counted : axis_holds (low_at r low axis place) (2 ^ (r.k - level)) v ≡ true → Within n Corner (steps_to r low v)
     unfolding low_at
     axis-counted t =
-        let b = axis-from low v (axis-between _ _ _ h).0 (Corner * Unit) (2 ^ n * Unit) (rw (side-is r (at-sizes r i) level n e) at t) in
+        let b = axis-from low v (axis-between _ _ _ h).0 (Corner * Unit) (2 ^ n * Unit) (rw (side-is r (limits-sizes r i).2 level n e) at t) in
         ((le-div_iff_mul-le {k = Unit} {x = Corner} {y = Gap} (pow_pos (r.k - r.d))).1 b.0, (div-lt_iff_lt-mul {k = Unit} {x = Gap} {y = Corner + 2 ^ n} (pow_pos (r.k - r.d))).1 (omega (arith, b.1)))
 
 -- the law, both ways

@@ -4,8 +4,6 @@ use Prim.Native.Nat.{ℕ, zero, suc, ◌+◌, ◌-◌, ◌*◌, ◌/◌, ◌%◌
 use native.Mathlib.Nat.{zero-div, div-div-eq-div-mul}
 use native.Mathlib.Omega.{arith}
 use lib.Pow.{pow_mono}
-use mir.Syntax.{w32}
-use mir.Val.{Fits}
 use Rattle.cube.specs.Cubes.{half, corner_of}
 
 -- ---- digit
@@ -13,8 +11,8 @@ pub two-eight : (n : ℕ) → 2 ^ (3 * n) ≡ 8 ^ n
 two-eight zero = refl
 two-eight (suc n) = let e : 3 * suc n ≡ suc (suc (suc (3 * n))) = omega arith in rw e (omega (arith, two-eight n))
 
-pub digit-is : (place i : ℕ) → place / 2 ^ (3 * i) % 8 ≡ place / 8 ^ i % 8
-digit-is place i = rw (two-eight i)
+pub digit_is : (place i : ℕ) → place / 2 ^ (3 * i) % 8 ≡ place / 8 ^ i % 8
+digit_is place i = rw (two-eight i)
 
 -- ---- corner
 pub half-below : (axis k : ℕ) → half axis k < 2
@@ -28,41 +26,23 @@ corner-below axis (suc d) place = omega (arith, corner-below axis d (place / 8),
 eighths : (place i : ℕ) → place / 8 ^ i / 8 ≡ place / 8 ^ suc i
 eighths place i = let e : 8 ^ i * 8 ≡ 8 ^ suc i = omega arith in div-div-eq-div-mul place (8 ^ i) 8 ∙ ap (λ (n : ℕ). place / n) e
 
--- the invariant: c is the corner after the first d - i child numbers
-pub record Digits (axis d place c i : ℕ) : Type 0 where
-  pub reach : i ≤ d
-  pub deep : d ≤ 10
-  pub same : c ≡ corner_of axis (d - i) (place / 8 ^ i)
+-- the corner by the child numbers that have i others or more below them: with i = d none yet, with i = 0 all of them
+pub corner_start : (axis d place : ℕ) → corner_of axis (d - d) place ≡ 0
+unfolding corner_of
+corner_start axis d place = let e : d - d ≡ 0 = omega arith in rw e
 
-module _ (axis d place : ℕ) where
-  pub digits-start : d ≤ 10 → Digits axis d place 0 d
-  unfolding corner_of
-  digits-start h = record { reach = omega arith; deep = h; same = let e : d - d ≡ 0 = omega arith in rw e }
+pub corner_small : (axis d i place : ℕ) → d ≤ 10 → corner_of axis (d - i) place < 2 ^ 10
+corner_small axis d i place h = omega (arith, corner-below axis (d - i) place, pow_mono {i = d - i} {j = 10} (omega arith))
 
-  pub digits-small : (c i : ℕ) → Digits axis d place c i → c < 2 ^ 10
-  digits-small c i b = omega (arith, b.same, corner-below axis (d - i) (place / 8 ^ i), pow_mono {i = d - i} {j = 10} (omega (arith, b.deep)))
+pub corner_next : (axis d i place : ℕ) → 0 < i → i ≤ d → corner_of axis (d - (i - 1)) (place / 8 ^ (i - 1)) ≡ 2 * corner_of axis (d - i) (place / 8 ^ i) + half axis (place / 8 ^ (i - 1) % 8)
+unfolding corner_of
+corner_next axis d zero place z h = absurd (omega arith)
+corner_next axis d (suc i) place z h =
+    let j : suc i - 1 ≡ i = omega arith in
+    let m : d - i ≡ suc (d - suc i) = omega arith in
+    rw (j, m, eighths place i)
 
-  pub digits-half : (c i n h : ℕ) → Digits axis d place c i → h ≡ half axis n → Fits w32 (2 * c + h)
-  digits-half c i n h b e = record { fits = omega (arith, digits-small c i b, half-below axis n) }
-
-  pub digits-on : (c i n h : ℕ) → Digits axis d place c i → 0 < i → n ≡ place / 8 ^ (i - 1) % 8 → h ≡ half axis n → Digits axis d place (2 * c + h) (i - 1)
-  unfolding corner_of
-  digits-on c zero n h b z e f = absurd (omega arith)
-  digits-on c (suc i) n h b z e f =
-      let j : suc i - 1 ≡ i = omega arith in
-      let m : d - i ≡ suc (d - suc i) = omega (arith, b.reach) in
-      record {
-        reach = omega (arith, b.reach);
-        deep = b.deep;
-        same = rw (j, m, eighths place i, ← b.same) (ap (λ (a : ℕ). 2 * c + a) (f ∙ ap (half axis) (rw j at e)));
-      }
-
-  pub digits-all : (c i : ℕ) → Digits axis d place c i → i ≤ 0 → c ≡ corner_of axis d place
-  digits-all c i b h =
-      let e : i ≡ 0 = omega arith in
-      let a : d - 0 ≡ d = omega arith in
-      let o : place / 1 ≡ place = omega arith in
-      rw (e, a, o) at b.same
+pub ruleset corner_steps = (corner_start, corner_small, corner_next, half-below)
 
 -- ---- the corner of a child
 pub times_eight : (c n : ℕ) → c * 8 ^ suc n ≡ 8 * (c * 8 ^ n)

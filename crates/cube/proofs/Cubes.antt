@@ -1,4 +1,4 @@
--- The cubes of a root: what the proofs of `cube`, `child` and `cube_at` need, that cubes stay near the origin and children lie in their cube, cubes inside one another, the children of the cube at a place, and that cube at a greater depth.
+-- The cubes of a root: what the proof of `cube_at` needs, that cubes stay near the origin and children lie in their cube, cubes inside one another, the children of the cube at a place, and that cube at a greater depth.
 use mathlib.Core.Path.{◌≡◌, refl, sym, ap, ◌∙◌}
 use mathlib.Core.Bool.{true}
 use Prim.Native.Nat.{ℕ, zero, suc, ◌+◌, ◌-◌, ◌*◌, ◌/◌, ◌%◌, ◌^◌, ◌≤◌, ◌<◌}
@@ -6,9 +6,9 @@ use native.Mathlib.Nat.{zero-mul, mul-le-mul_right}
 use native.Mathlib.Omega.{arith}
 use lib.Pow.{pow-add, shl_lt}
 use lib.IntN.{ℤ, pos, nat_abs, ◌+ℤ◌, +ℤ_assoc, +ℤ_idr, pos-+ℤ-pos}
-use lib.Signed.{mag, ◌≤ℤ◌, ≤ℤ_refl}
+use lib.Signed.{◌≤ℤ◌, ≤ℤ_refl}
 use mir.Syntax.{w32}
-use mir.Val.{Fits, SFits, to_z, of_z}
+use mir.Val.{Fits}
 use mir.Facts.{to_z-of_z}
 use Rattle.integers.proofs.Naturals.{abs-+, ints, +-is}
 use Rattle.integers.proofs.Order.{≤_trans}
@@ -17,7 +17,7 @@ use Rattle.cube.specs.declared.Cube.{Cube}
 use Rattle.cube.specs.Limits.{in_limits, at_depth, Near}
 use Rattle.cube.specs.Points.{CubeInside}
 use Rattle.cube.specs.Cubes.{root_cube, half, child_of, corner_of, low_at, cube_at}
-use Rattle.cube.proofs.Limits.{limits-sizes, near-x, near-y, near-z}
+use Rattle.cube.proofs.Limits.{limits-sizes, near-x, near-y, near-z, root_facts}
 use Rattle.cube.proofs.Corners.{half-below, half-zero, corner-below, corner-zero, corner-child, times_eight, times-two}
 
 -- ---- near the origin
@@ -96,78 +96,16 @@ module _ (r : Root) (e : in_limits r ≡ true) where
     pub near-once : Near 0 q
     near-once = near-fewer r.d 0 q near-all (omega arith)
 
--- ---- cube
-pub root_told : (r : Root) (side : ℕ) → SFits w32 r.x → SFits w32 r.y → SFits w32 r.z → side ≡ 2 ^ r.k →
-    ◌≡◌ {A = Cube} (record { x = to_z w32 (of_z w32 r.x); y = to_z w32 (of_z w32 r.y); z = to_z w32 (of_z w32 r.z); side = side; level = 0 }) (root_cube r)
-unfolding root_cube
-root_told r side fx fy fz e = rw (to_z-of_z fx, to_z-of_z fy, to_z-of_z fz, e)
+-- ---- cube_at: the corner c of the cube at a place, in smallest cubes of side u, lies in the root
+pub corner_inside : (r : Root) (axis place c u : ℕ) → in_limits r ≡ true → c ≡ corner_of axis r.d place → u ≡ 2 ^ (r.k - r.d) → c * u < 2 ^ r.k
+corner_inside r axis place c u e ec eu =
+    let k : r.d + (r.k - r.d) ≡ r.k = omega (arith, limits-sizes r e) in
+    rw (ec, eu) (rw k at (shl_lt r.d (r.k - r.d) (corner-below axis r.d place)))
 
--- ---- child: h is what `half_of` returned
-module _ (q : Cube) (near : Near 1 q) (axis n h : ℕ) (e : h ≡ half axis n) where
-  step-most : h * (q.side / 2) ≤ q.side / 2
-  step-most = rw e (half-most (half axis n) (q.side / 2) (half-below axis n))
+pub corner_fits : (r : Root) (axis place c u : ℕ) → in_limits r ≡ true → c ≡ corner_of axis r.d place → u ≡ 2 ^ (r.k - r.d) → Fits w32 (c * u)
+corner_fits r axis place c u e ec eu = record { fits = omega (arith, corner_inside r axis place c u e ec eu, near-x r e) }
 
-  pub step_fits : Fits w32 (h * (q.side / 2))
-  step_fits = record { fits = omega (arith, step-most, near.x) }
-
-  step_room : (low : ℤ) → SFits w32 low → nat_abs low + q.side ≤ 2 ^ 21 → nat_abs (to_z w32 (of_z w32 low)) + h * (q.side / 2) ≤ 2 ^ 21
-  step_room low f s = rw (to_z-of_z f) (omega (arith, step-most))
-
-  pub step-x : SFits w32 q.x → nat_abs (to_z w32 (of_z w32 q.x)) + h * (q.side / 2) ≤ 2 ^ 21
-  step-x f = step_room q.x f near.x
-
-  pub step-y : SFits w32 q.y → nat_abs (to_z w32 (of_z w32 q.y)) + h * (q.side / 2) ≤ 2 ^ 21
-  step-y f = step_room q.y f near.y
-
-  pub step-z : SFits w32 q.z → nat_abs (to_z w32 (of_z w32 q.z)) + h * (q.side / 2) ≤ 2 ^ 21
-  step-z f = step_room q.z f near.z
-
--- the result of `moved`, passed on
-pub axis-told : (low x : ℤ) (a b : ℕ) → SFits w32 low → mag x < 2 ^ 31 → x ≡ to_z w32 (of_z w32 low) +ℤ pos a → a ≡ b → to_z w32 (of_z w32 x) ≡ low +ℤ pos b
-axis-told low x a b f g e h = to_z-of_z {w = w32} (record { sfits = g }) ∙ e ∙ rw (to_z-of_z f, h)
-
-pub product-told : (h a s t : ℕ) → h ≡ a → s ≡ t → h * s ≡ a * t
-product-told h a s t e f = rw (e, f)
-
-pub child-told : (q : Cube) (n : ℕ) (x y z : ℤ) → x ≡ q.x +ℤ pos (half 0 n * (q.side / 2)) → y ≡ q.y +ℤ pos (half 1 n * (q.side / 2)) → z ≡ q.z +ℤ pos (half 2 n * (q.side / 2)) →
-    ◌≡◌ {A = Cube} (record { x = x; y = y; z = z; side = q.side / 2; level = q.level + 1 }) (child_of q n)
-unfolding child_of
-child-told q n x y z ex ey ez = rw (ex, ey, ez)
-
--- ---- cube_at: c is what `corner` returned, u the side of a smallest cube
-module _ (r : Root) (e : in_limits r ≡ true) where
-  pub at-sizes : r.d ≤ r.k
-  at-sizes = (limits-sizes r e).2
-
-  pub at_level : (level : ℕ) → level ≤ r.d → level ≤ r.k
-  at_level level h = omega (arith, at-sizes)
-
-  pub at-deep : r.d ≤ 10
-  at-deep = (limits-sizes r e).1
-
-  pub at_side : (n : ℕ) → r.k - n ≤ 16
-  at_side n = omega (arith, (limits-sizes r e).0)
-
-  module _ (axis place c u : ℕ) (ec : c ≡ corner_of axis r.d place) (eu : u ≡ 2 ^ (r.k - r.d)) where
-    below : c * u < 2 ^ r.k
-    below =
-        let k : r.d + (r.k - r.d) ≡ r.k = omega (arith, at-sizes) in
-        rw (ec, eu) (rw k at (shl_lt r.d (r.k - r.d) (corner-below axis r.d place)))
-
-    pub at-fits : Fits w32 (c * u)
-    at-fits = record { fits = omega (arith, below, near-x r e) }
-
-    pub at_room : (low : ℤ) → SFits w32 low → nat_abs low + 2 ^ r.k ≤ 2 ^ 21 → nat_abs (to_z w32 (of_z w32 low)) + c * u ≤ 2 ^ 21
-    at_room low f h = rw (to_z-of_z f) (omega (arith, below))
-
-pub at_told : (r : Root) (place level side : ℕ) (x y z : ℤ) → x ≡ low_at r r.x 0 place → y ≡ low_at r r.y 1 place → z ≡ low_at r r.z 2 place → side ≡ 2 ^ (r.k - level) →
-    ◌≡◌ {A = Cube} (record { x = x; y = y; z = z; side = side; level = level }) (cube_at r place level)
-unfolding cube_at
-at_told r place level side x y z ex ey ez es = rw (ex, ey, ez, es)
-
-pub low_told : (r : Root) (low x : ℤ) (axis place c u : ℕ) → c ≡ corner_of axis r.d place → u ≡ 2 ^ (r.k - r.d) → SFits w32 low → mag x < 2 ^ 31 → x ≡ to_z w32 (of_z w32 low) +ℤ pos (c * u) → to_z w32 (of_z w32 x) ≡ low_at r low axis place
-unfolding low_at
-low_told r low x axis place c u ec eu f g e = axis-told low x (c * u) _ f g e (product-told _ _ _ _ ec eu)
+pub ruleset at_facts = (root_facts, corner_inside, corner_fits, to_z-of_z)
 
 -- ---- the child of the cube at a place
 cube-same : (a b : Cube) → a.x ≡ b.x → a.y ≡ b.y → a.z ≡ b.z → a.side ≡ b.side → a.level ≡ b.level → a ≡ b

@@ -1,5 +1,4 @@
 pub mod Limits
-pub mod Planes
 pub mod Corners
 pub mod Cubes
 pub mod Places

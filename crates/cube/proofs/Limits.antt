@@ -1,7 +1,7 @@
 -- What follows if root and depth are in limits.
 use mathlib.Core.Path.{◌≡◌, refl, sym}
 use mathlib.Core.Bool.{Bool, true, false, ◌&&◌, true≢false}
-use Prim.Native.Nat.{ℕ, ◌+◌, ◌≤◌, ◌^◌}
+use Prim.Native.Nat.{ℕ, ◌+◌, ◌-◌, ◌≤◌, ◌^◌}
 use native.Mathlib.Omega.{arith}
 use borrow.Author.Tests.{leb-true, le-leb}
 use lib.Dec.{leb}
@@ -82,9 +82,15 @@ module _ (r : Root) (e : in_limits r ≡ true) where
   pub near-z : nat_abs r.z + 2 ^ r.k ≤ 2 ^ 21
   near-z = planes-near _ _ limits-z limits-side
 
+  pub side_room : (n : ℕ) → r.k - n ≤ 16
+  side_room n = omega (arith, limits-sizes)
+
   -- a smaller depth is in limits too
   pub shallower : (d : ℕ) → d ≤ r.d → in_limits (at_depth d r) ≡ true
   unfolding in_limits sizes_fit
   shallower d h =
       let t = limits-sizes in
       rw (le-leb r.k 16 t.0, le-leb d 10 (omega (arith, t.1)), le-leb d r.k (omega (arith, t.2)), parts.1, parts.2, parts.3)
+
+-- what a function that has a root in its limits needs
+pub ruleset root_facts = (limits-sizes, near-x, near-y, near-z)

@@ -23,3 +23,6 @@ module _ (x y z : ℤ) (fx : SFits w32 x) (fy : SFits w32 y) (fz : SFits w32 z) 
 
   pub same-root : (k d : ℕ) → passed_root x y z k d ≡ record { x = x; y = y; z = z; k = k; d = d }
   same-root k d = rw (to_z-of_z fx, to_z-of_z fy, to_z-of_z fz)
+
+-- a number read back from its bits, for `grind`
+pub ruleset read_back = (to_z-of_z)

@@ -1,4 +1,4 @@
--- The place of a point: what the proofs of `place_by`, `Point::cube` and `place` need, and what holds of a point of the root.
+-- The place of a point: what the proofs of `place_by` and `place` need, and what holds of a point of the root.
 use mathlib.Core.Path.{◌≡◌, refl, ap, ◌∙◌}
 use mathlib.Core.Bool.{Bool, true, ◌&&◌}
 use Prim.Native.Nat.{ℕ, zero, suc, ◌+◌, ◌-◌, ◌*◌, ◌/◌, ◌%◌, ◌^◌, ◌≤◌, ◌<◌}
@@ -16,7 +16,7 @@ use Rattle.cube.specs.declared.Cube.{Cube}
 use Rattle.cube.specs.declared.Point.{Point}
 use Rattle.cube.specs.Limits.{in_limits, Near}
 use Rattle.cube.specs.Cubes.{root_cube}
-use Rattle.cube.specs.Points.{axis_holds, holds_point, point_cube, place_by, steps_to, place_of, CubeInside}
+use Rattle.cube.specs.Points.{axis_holds, holds_point, point_cube, place_by, place_of, CubeInside}
 use Rattle.cube.proofs.Limits.{both, near-x, near-y, near-z}
 
 -- ---- place_by
@@ -28,54 +28,29 @@ place-by-below (suc d) x y z = omega (arith, place-by-below d (x / 2) (y / 2) (z
 halves : (x i : ℕ) → x / 2 ^ i / 2 ≡ x / 2 ^ suc i
 halves x i = let e : 2 ^ i * 2 ≡ 2 ^ suc i = omega arith in div-div-eq-div-mul x (2 ^ i) 2 ∙ ap (λ (n : ℕ). x / n) e
 
--- the child number with i levels below it, as `child_number` returns it
-abbrev Number : ℕ → ℕ → ℕ → ℕ → ℕ
-Number x y z i = x / 2 ^ i % 2 + 2 * (y / 2 ^ i % 2) + 4 * (z / 2 ^ i % 2)
-
-place-suc : (n i p x y z : ℕ) → p ≡ place_by n (x / 2 ^ suc i) (y / 2 ^ suc i) (z / 2 ^ suc i) → 8 * p + Number x y z i ≡ place_by (suc n) (x / 2 ^ i) (y / 2 ^ i) (z / 2 ^ i)
+-- the place by the child numbers that have i levels or more below them: with i = d none yet, with i = 0 all of them
+pub place_start : (d x y z : ℕ) → place_by (d - d) x y z ≡ 0
 unfolding place_by
-place-suc n i p x y z e = rw (halves x i, halves y i, halves z i) (omega arith)
+place_start d x y z = let e : d - d ≡ 0 = omega arith in rw e
 
--- the invariant: p is the place after the first d - i levels
-pub record Bits (d x y z p i : ℕ) : Type 0 where
-  pub reach : i ≤ d
-  pub deep : d ≤ 10
-  pub same : p ≡ place_by (d - i) (x / 2 ^ i) (y / 2 ^ i) (z / 2 ^ i)
+-- a level is still to come, so 8 times the place fits
+pub place_small : (d i x y z : ℕ) → d ≤ 10 → 0 < i → place_by (d - i) x y z < 8 ^ 9
+place_small d i x y z h l = omega (arith, place-by-below (d - i) x y z, pow-le-pow_right {n = 8} (omega arith) {i = d - i} {j = 9} (omega arith))
 
-module _ (d x y z : ℕ) where
-  pub bits-start : d ≤ 10 → Bits d x y z 0 d
-  unfolding place_by
-  bits-start h = record { reach = omega arith; deep = h; same = let e : d - d ≡ 0 = omega arith in rw e }
+pub place_next : (d i x y z : ℕ) → 0 < i → i ≤ d → place_by (d - (i - 1)) (x / 2 ^ (i - 1)) (y / 2 ^ (i - 1)) (z / 2 ^ (i - 1)) ≡
+    8 * place_by (d - i) (x / 2 ^ i) (y / 2 ^ i) (z / 2 ^ i) + (x / 2 ^ (i - 1) % 2 + 2 * (y / 2 ^ (i - 1) % 2) + 4 * (z / 2 ^ (i - 1) % 2))
+unfolding place_by
+place_next d zero x y z l h = absurd (omega arith)
+place_next d (suc i) x y z l h =
+    let j : suc i - 1 ≡ i = omega arith in
+    let m : d - i ≡ suc (d - suc i) = omega arith in
+    rw (j, m, halves x i, halves y i, halves z i)
 
-  -- a level is still to come, so 8 times the place fits
-  pub bits_small : (p i : ℕ) → Bits d x y z p i → 0 < i → p < 8 ^ 9
-  bits_small p i b h = omega (arith, b.same, place-by-below (d - i) (x / 2 ^ i) (y / 2 ^ i) (z / 2 ^ i), pow-le-pow_right {n = 8} (omega arith) {i = d - i} {j = 9} (omega (arith, b.deep)))
-
-  pub bits-on : (p i k : ℕ) → Bits d x y z p i → 0 < i → k ≡ Number x y z (i - 1) → Bits d x y z (8 * p + k) (i - 1)
-  bits-on p zero k b h f = absurd (omega arith)
-  bits-on p (suc i) k b h f =
-      let j : suc i - 1 ≡ i = omega arith in
-      let n : d - i ≡ suc (d - suc i) = omega (arith, b.reach) in
-      record { reach = omega (arith, b.reach); deep = b.deep; same = rw (f, j, n) (place-suc (d - suc i) i p x y z b.same) }
-
-  pub bits-all : (p i : ℕ) → Bits d x y z p i → i ≤ 0 → p ≡ place_by d x y z
-  bits-all p i b h =
-      let e : i ≡ 0 = omega arith in
-      let a : d - 0 ≡ d = omega arith in
-      let bx : x / 1 ≡ x = omega arith in
-      let by : y / 1 ≡ y = omega arith in
-      let bz : z / 1 ≡ z = omega arith in
-      rw (e, a, bx, by, bz) at b.same
+pub ruleset place_steps = (place_start, place_small, place_next)
 
 pub place-below : (r : Root) (p : Point) → place_of r p < 8 ^ r.d
 unfolding place_of
 place-below r p = place-by-below r.d _ _ _
-
--- ---- Point::cube
-pub point-told : (p : Point) → SFits w32 p.x → SFits w32 p.y → SFits w32 p.z →
-    ◌≡◌ {A = Cube} (record { x = to_z w32 (of_z w32 p.x); y = to_z w32 (of_z w32 p.y); z = to_z w32 (of_z w32 p.z); side = 0; level = 0 }) (point_cube p)
-unfolding point_cube
-point-told p fx fy fz = rw (to_z-of_z fx, to_z-of_z fy, to_z-of_z fz)
 
 -- ---- a point of a cube
 -- a coordinate between two planes, the high one left out
@@ -168,11 +143,3 @@ point-near r p i e = record {
   z = axis-near _ _ _ (point-z r p e) (near-z r i);
   deep = omega arith;
 }
-
--- ---- place: x, y and z are what `steps_to` returned
-pub steps-told : (r : Root) (low v : ℤ) (n x : ℕ) → SFits w32 low → SFits w32 v → n ≡ r.k - r.d → x ≡ nat_abs (to_z w32 (of_z w32 v) -ℤ to_z w32 (of_z w32 low)) / 2 ^ n → x ≡ steps_to r low v
-steps-told r low v n x f g en e = rw (to_z-of_z f, to_z-of_z g, en) at e
-
-pub place-told : (r : Root) (p : Point) (place x y z : ℕ) → x ≡ steps_to r r.x p.x → y ≡ steps_to r r.y p.y → z ≡ steps_to r r.z p.z → place ≡ place_by r.d x y z → place ≡ place_of r p
-unfolding place_of
-place-told r p place x y z ex ey ez e = rw (ex, ey, ez) at e

@@ -2,10 +2,18 @@
 use Rattle.std.specs.Prelude.{ℕ, zero, suc, ◌+◌, ◌-◌, ◌*◌, ◌/◌, ◌%◌, ◌^◌, ℤ, pos, ◌+ℤ◌}
 use Rattle.cube.specs.declared.Root.{Root}
 use Rattle.cube.specs.declared.Cube.{Cube}
+use Rattle.cube.specs.declared.Axis.{Axis}
+use Rattle.cube.specs.declared.Axis.TheVariants.{X, Y, Z}
 
 -- the root as a cube: level 0, side 2^k
 unfoldable pub root_cube : Root → Cube
 root_cube r = record { x = r.x; y = r.y; z = r.z; side = 2 ^ r.k; level = 0 }
+
+-- the number of an axis in the code
+abbrev pub axis_number : Axis → ℕ
+axis_number X = 0
+axis_number Y = 1
+axis_number Z = 2
 
 -- Child number = x half + 2 (y half) + 4 (z half): the half of child k on axis 0 (x), 1 (y) or 2 (z), the low half being 0.
 abbrev pub half : ℕ → ℕ → ℕ

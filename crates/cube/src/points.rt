@@ -8,6 +8,7 @@ ghost use Rattle.cube.specs.Points.{axis_holds, holds_point, point_cube, place_b
 use crate::{Cube, Point, Root};
 
 // Whether a coordinate lies between two planes, the high one left out. The high plane is computed in 64 bits, where the sum cannot wrap.
+#[tactic(auto, unfolding(crate::specs::Points::axis_holds))]
 fn axis_holds(low: i32, side: u32, v: i32) -> bool
     ensures { result ≡ axis_holds low side v }
 {
@@ -23,14 +24,13 @@ fn child_number(x: u32, y: u32, z: u32, i: u8) -> u32
 }
 
 // The place of a smallest cube, from its low corner.
+#[tactic(auto, using(crate::proofs::Places::place_steps))]
 fn place_by(x: u32, y: u32, z: u32, d: u8) -> u32
     requires { d ≤ 10 }
     ensures { result ≡ place_by d x y z }
 {
-    let mut place: u32 = 0;
-    let mut i = d;
-    while i > 0 {
-        i -= 1;
+    let mut place = 0;
+    for i in (0..d).rev() {
         place = 8 * place + child_number(x, y, z, i);
     }
     place
@@ -38,9 +38,9 @@ fn place_by(x: u32, y: u32, z: u32, d: u8) -> u32
 
 // The number of cubes of side 2^n between a low plane and a coordinate.
 fn steps_to(low: i32, v: i32, n: u8) -> u32
-    requires fact_1 { low ≤ℤ v }
-    requires fact_2 { nat_abs (v -ℤ low) ≤ 2 ^ 21 }
-    requires fact_3 { n ≤ 16 }
+    requires above { low ≤ℤ v }
+    requires near { nat_abs (v -ℤ low) ≤ 2 ^ 21 }
+    requires step_at_most_2_16 { n ≤ 16 }
     ensures { result ≡ nat_abs (v -ℤ low) / 2 ^ n }
 {
     (v - low) as u32 >> n
@@ -48,18 +48,19 @@ fn steps_to(low: i32, v: i32, n: u8) -> u32
 
 impl Cube {
     // Whether a point lies in the cube, the high planes left out.
+    #[tactic(auto, using(crate::proofs::Passed::read_back), unfolding(crate::specs::Points::holds_point))]
     pub fn holds(self, p: Point) -> bool
         ensures { result ≡ holds_point self p }
     {
-        if axis_holds(self.x, self.side, p.x) {
-            return axis_holds(self.y, self.side, p.y) && axis_holds(self.z, self.side, p.z);
-        }
-        false
+        axis_holds(self.x, self.side, p.x)
+            && axis_holds(self.y, self.side, p.y)
+            && axis_holds(self.z, self.side, p.z)
     }
 }
 
 impl Point {
     // The point as a cube.
+    #[tactic(auto, unfolding(crate::specs::Points::point_cube))]
     pub fn cube(self) -> Cube
         ensures { result ≡ point_cube self }
     {
@@ -74,7 +75,8 @@ impl Point {
 }
 
 impl Root {
-    // The place of a point of the root.
+    // The place of a point of the root. (The proofs of `zonemap` cite the clauses by their names.)
+    #[tactic(auto, using(crate::proofs::Limits::root_facts), unfolding(crate::specs::Points::place_of))]
     pub fn place(self, p: Point) -> u32
         requires fact_1 { in_limits self ≡ true }
         requires fact_2 { holds_point (root_cube self) p ≡ true }

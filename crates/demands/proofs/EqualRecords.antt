@@ -1,5 +1,6 @@
 -- Two sheets whose bytes are equal but for byte 2, the version: the same records are read from both, but for how their faces compare, and if both versions are
 -- known, both sheets are good or are refused alike.
+use Rattle.std.specs.Prelude.{Err, None, Option, Result, Some}
 use mathlib.Core.Path.{◌≡◌, refl, sym, ap, ap₂, ◌∙◌}
 use mathlib.Core.Bool.{Bool, true, false, cond, ◌&&◌}
 use mathlib.Core.List.{List, [], ◌∷◌, ◌++◌, map}
@@ -14,11 +15,7 @@ use Rattle.interval.specs.declared.Interval.{Interval}
 use Rattle.sheet.specs.declared.Comparison.{Comparison}
 use Rattle.sheet.specs.declared.Record.{Record}
 use Rattle.sheet.specs.declared.Record.TheVariants.{Constant, X, Y, Z, Sum, Difference, Product, Square, Face, Both, Either, Complement}
-use Rattle.sheet.specs.declared.Row.{Row}
-use Rattle.sheet.specs.declared.Row.TheVariants.{Known, Unknown}
 use Rattle.sheet.specs.declared.Cursor.{Cursor}
-use Rattle.sheet.specs.declared.Read.{Read}
-use Rattle.sheet.specs.declared.Read.TheVariants.{Refused}
 use Rattle.sheet.specs.declared.Sort.{Sort}
 use Rattle.sheet.specs.Table.{comparison_of, row_of, row_at, on_row, read_at}
 use Rattle.sheet.specs.Records.{Reading, first, on_read, read_from, reading, records_of}
@@ -53,9 +50,9 @@ module _ {A : Type 0} (what : Record → A) (same : (by other : Comparison) (a :
   compared-keeps (Complement a) = refl
 
 -- ---- a row of the table
-abbrev row_with : Comparison → Row → Row
-row_with by (Known r) = Known (compared by r)
-row_with by Unknown = Unknown
+abbrev row_with : Comparison → Option Record → Option Record
+row_with by (Some r) = Some (compared by r)
+row_with by None = None
 
 row-compared : (by other : Comparison) (size kind a b : ℕ) (c : ℤ) → row_with by (row_of other size kind a b c) ≡ row_of by size kind a b c
 unfolding row_of
@@ -171,15 +168,15 @@ module _ (s t : List ℕ) (long : length s ≡ length t) (same : (i : ℕ) → (
   read_with r = record { records = map (compared by) r.records; stop = r.stop }
 
   -- one read: no record may follow, it runs over the end, or it has this row
-  abbrev read_by : Bool → Bool → Row → ℕ → Cursor → Read
-  read_by full over row at next = cond full (Refused at) (cond over (Refused at) (on_row row next at))
+  abbrev read_by : Bool → Bool → Option Record → ℕ → Cursor → Result (Record × Cursor) ℕ
+  read_by full over row at next = cond full (Err at) (cond over (Err at) (on_row row next at))
 
-  on_read_lem : (full over : Bool) (row : Row) (left at : ℕ) (next : Cursor) → read_from left s next.at ≡ read_with (read_from left t next.at)
+  on_read_lem : (full over : Bool) (row : Option Record) (left at : ℕ) (next : Cursor) → read_from left s next.at ≡ read_with (read_from left t next.at)
       → on_read (read_by full over (row_with by row) at next) (λ n. read_from left s n.at) ≡ read_with (on_read (read_by full over row at next) (λ n. read_from left t n.at))
   on_read_lem true over row left at next h = refl
   on_read_lem false true row left at next h = refl
-  on_read_lem false false (Known r) left at next h = ap (first (compared by r)) h
-  on_read_lem false false Unknown left at next h = refl
+  on_read_lem false false (Some r) left at next h = ap (first (compared by r)) h
+  on_read_lem false false None left at next h = refl
 
   same_from : (left at : ℕ) → 3 ≤ at → read_from left s at ≡ read_with (read_from left t at)
   unfolding read_from read_at

@@ -1,5 +1,6 @@
 -- What zone_lookup returns: code 0 exactly if no row of the table refuses; the leaf that holds the position decides; and in a truthful map inside or outside is
 -- true of the solid there.
+use Rattle.std.specs.Prelude.{Err}
 use mathlib.Core.Path.{◌≡◌, refl, sym, ap, ◌∙◌}
 use mathlib.Core.Bool.{Bool, true, false, cond, not}
 use mathlib.Core.List.{List, []}
@@ -29,8 +30,7 @@ use Rattle.zonemap.proofs.Finding.{leaf-bytes}
 use Rattle.zonemap.proofs.Tiling.{one}
 use Rattle.pair.specs.Pairs.{pair_refusal}
 use Rattle.pair.proofs.Openings.{pair-good, pair-opens}
-use Rattle.lookup.specs.declared.Reply.{Reply}
-use Rattle.lookup.specs.declared.Reply.TheVariants.{Refused}
+use Rattle.lookup.specs.Lookup.{Reply}
 use Rattle.lookup.specs.Lookup.{answer_number, answer_of, side_of, leaf_holding, point_reply, lookup_of, numbered}
 use Rattle.zone.specs.declared.ZoneReply.{ZoneReply}
 use Rattle.zone.specs.Replies.{reply, by_number, zone_check_of, zone_lookup_of}
@@ -59,8 +59,8 @@ module _ (sheet map : List ℕ) (p : Point) where
   looks-up-only : (zone_lookup_of sheet map p).code ≡ 0 → CanLookUp sheet map p
   unfolding zone_lookup_of lookup_of point_reply
   looks-up-only e =
-      let opened = none_first Answers Refused _ (pair_refusal sheet map) (no_code 0 refl) e in
-      let over = none_first Answers (λ o. Refused (OverRoot o)) _ (first_past rs (root_cube (root_of map))) (λ at z. omega arith) opened.1 in
+      let opened = none_first Answers Err _ (pair_refusal sheet map) (no_code 0 refl) e in
+      let over = none_first Answers (λ o. Err (OverRoot o)) _ (first_past rs (root_cube (root_of map))) (λ at z. omega arith) opened.1 in
       let good = not-refused (check_of sheet) (pair-good sheet map opened.0) in
       by-test (holds_point (root_cube (root_of map)) p)
       (λ t. record {

@@ -1,4 +1,5 @@
 -- What a map built from a sheet is: the map that the rules name. It opens, and each of its leaves is that of the cube at its own place.
+use Rattle.std.specs.Prelude.{Ok}
 use mathlib.Core.Path.{◌≡◌, sym, ap, ◌∙◌}
 use mathlib.Core.Bool.{true}
 use mathlib.Core.List.{List, ◌++◌}
@@ -6,7 +7,6 @@ use Prim.Native.Nat.{ℕ, ◌<◌}
 use borrow.Author.Tests.{eqb-true, eq-eqb}
 use lib.ListN.{length, take, drop}
 use lib.Seq.{take-append_seam, drop-append_seam}
-use Rattle.replies.specs.declared.Reply.TheVariants.{Done}
 use Rattle.sheet.specs.declared.Record.{Record}
 use Rattle.sheet.specs.Records.{records_of}
 use Rattle.sheet.specs.Check.{check_of}
@@ -57,7 +57,7 @@ module _ (over : List Record → Cube → State) (good : (rs : List Record) (lev
     root = b.root
 
     -- the sheet is good, and the buffer begins with its map
-    pub told : ((n : ℕ) × (check_of sheet ≡ Done n)) × Made b.size b.before b.after rs root (map_by (over rs) root)
+    pub told : ((n : ℕ) × (check_of sheet ≡ Ok n)) × Made b.size b.before b.after rs root (map_by (over rs) root)
     told =
         let e = b.returned in
         let t = made (λ rs. map_by (over rs)) sheet root b.before (sym (ap (λ (o : ZoneOutcome). o.reply.code) e)) in

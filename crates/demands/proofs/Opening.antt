@@ -1,4 +1,5 @@
 -- What it means that a map opens: it has no fault exactly if the length, the version, the root and every leaf at its own place are good.
+use Rattle.std.specs.Prelude.{Err, Ok}
 use mathlib.Core.Path.{◌≡◌, refl, ap, ◌∙◌}
 use mathlib.Core.Bool.{Bool, true, false, ◌&&◌, and-eq-true_iff}
 use mathlib.Core.List.{List, [], ◌∷◌}
@@ -11,8 +12,7 @@ use Rattle.bigendian.specs.Numbers.{unsigned_at}
 use Rattle.integers.proofs.First.{none_first}
 use Rattle.integers.proofs.Order.{by-test}
 use Rattle.replies.specs.declared.Refusal.TheVariants.{Map}
-use Rattle.replies.specs.declared.Reply.{Reply}
-use Rattle.replies.specs.declared.Reply.TheVariants.{Done, Refused}
+use Rattle.replies.specs.Table.{Reply}
 use Rattle.cube.specs.Limits.{WithinLimits}
 use Rattle.cube.proofs.Numbers.{within-limits, limits-within, out-of-limits}
 use Rattle.zonemap.specs.declared.Leaf.{Leaf}
@@ -182,9 +182,9 @@ any-opens named map o = record {
 
 -- ---- zone_open
 module _ (map : List ℕ) where
-  no-fault : (n : ℕ) → open_of map ≡ Done n → fault_of any_face map ≡ []
+  no-fault : (n : ℕ) → open_of map ≡ Ok n → fault_of any_face map ≡ []
   unfolding open_of
-  no-fault n e = (none_first (λ (r : Reply). r ≡ Done n) (λ at. Refused (Map at)) _ (fault_of any_face map) (λ at c. let z : ◌≡◌ {A = ℕ} 0 1 = cc in omega arith) e).0
+  no-fault n e = (none_first (λ (r : Reply). r ≡ Ok n) (λ at. Err (Map at)) _ (fault_of any_face map) (λ at c. let z : ◌≡◌ {A = ℕ} 0 1 = cc in omega arith) e).0
 
   -- a map that zone_open opens has no fault
   pub opened-fault : (zone_open_of map).code ≡ 0 → fault_of any_face map ≡ []

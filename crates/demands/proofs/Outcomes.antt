@@ -1,4 +1,5 @@
 -- What zone_build returns: code 0 exactly if no row of the table refuses, and if one does the lent buffer is unchanged.
+use Rattle.std.specs.Prelude.{Err, Ok}
 use mathlib.Core.Path.{◌≡◌, refl, sym, ap}
 use mathlib.Core.List.{List, [], ◌∷◌}
 use Prim.Native.Nat.{ℕ}
@@ -14,8 +15,7 @@ use Rattle.replies.specs.declared.End.TheVariants.{Low, High}
 use Rattle.replies.specs.declared.Over.{Over}
 use Rattle.replies.specs.declared.Refusal.{Refusal}
 use Rattle.replies.specs.declared.Refusal.TheVariants.{OverRoot}
-use Rattle.replies.specs.declared.Reply.{Reply}
-use Rattle.replies.specs.declared.Reply.TheVariants.{Done, Refused}
+use Rattle.replies.specs.Table.{Reply}
 use Rattle.replies.specs.Table.{over, over_number, refusal_of}
 use Rattle.replies.proofs.Told.{not-refused}
 use Rattle.sheet.specs.declared.Record.{Record}
@@ -73,18 +73,18 @@ module _ (before : List ℕ) where
   solid-kept map_over rs root =
       by-test (in_limits root)
       (λ t. rw t
-      (each_first Kept (λ o. outcome (Refused (OverRoot o)) before) _ (first_past rs (root_cube root)) (λ o _. refl)
+      (each_first Kept (λ o. outcome (Err (OverRoot o)) before) _ (first_past rs (root_cube root)) (λ o _. refl)
       (stored-kept (map_over rs root))))
       (λ t. rw t (λ _. refl))
 
   pub unchanged : (sheet : List ℕ) (root : Root) → ((zone_build_of sheet root before).reply.code ≡ 0 → ⊥) → (zone_build_of sheet root before).buffer ≡ before
   unfolding zone_build_of build_with
-  unchanged sheet root = each_first Kept (λ why. outcome (Refused why) before) _ (refusal_of (check_of sheet)) (λ why _. refl) (solid-kept built_map (records_of sheet) root)
+  unchanged sheet root = each_first Kept (λ why. outcome (Err why) before) _ (refusal_of (check_of sheet)) (λ why _. refl) (solid-kept built_map (records_of sheet) root)
 
 -- ---- a sheet that is refused
-pub refused_why : (r : Reply) → ((by_number r).code ≡ 0 → ⊥) → (why : Refusal) × (r ≡ Refused why)
-refused_why (Done n) h = absurd (h refl)
-refused_why (Refused why) h = (why, refl)
+pub refused_why : (r : Reply) → ((by_number r).code ≡ 0 → ⊥) → (why : Refusal) × (r ≡ Err why)
+refused_why (Ok n) h = absurd (h refl)
+refused_why (Err why) h = (why, refl)
 
 pub build-refused : (sheet : List ℕ) → ((zone_check_of sheet).code ≡ 0 → ⊥) → (root : Root) (before : List ℕ) → zone_build_of sheet root before ≡ zone_outcome (zone_check_of sheet) before
 unfolding zone_build_of build_with zone_check_of
@@ -97,7 +97,7 @@ module _ (map_over : List Record → Root → List ℕ) (sheet : List ℕ) (root
   done = build_with map_over sheet root before
 
   pub made : (by_number done.reply).code ≡ 0
-      → ((n : ℕ) × (check_of sheet ≡ Done n)) × Made (by_number done.reply).number before done.buffer (records_of sheet) root (map_over (records_of sheet) root)
+      → ((n : ℕ) × (check_of sheet ≡ Ok n)) × Made (by_number done.reply).number before done.buffer (records_of sheet) root (map_over (records_of sheet) root)
   made e =
       let t = done-made map_over sheet root before done.buffer (by_number done.reply).number (ap (λ (r : Reply). outcome r done.buffer) (sym (done-code done.reply e))) in
       (not-refused (check_of sheet) t.0, t.1)

@@ -1,4 +1,5 @@
 -- The rows of request 2026-01 hold; and a map built before request 2026-03 that refining does not make equal to the one built afresh.
+use Rattle.std.specs.Prelude.{Ok}
 use mathlib.Core.Path.{◌≡◌, refl, sym, ap, ap₂, ◌∙◌}
 use mathlib.Core.Bool.{true, false}
 use mathlib.Core.List.{List, [], ◌∷◌, ◌++◌}
@@ -11,7 +12,6 @@ use lib.Seq.{take-append_seam}
 use Rattle.bigendian.specs.Numbers.{unsigned_at, signed32}
 use Rattle.interval.specs.Rules.{difference}
 use Rattle.interval.specs.Limit.{is_small, past_end}
-use Rattle.replies.specs.declared.Reply.TheVariants.{Done}
 use Rattle.replies.specs.Table.{refusal_of}
 use Rattle.sheet.specs.declared.Comparison.TheVariants.{AtMost}
 use Rattle.sheet.specs.declared.Record.{Record}
@@ -144,7 +144,7 @@ twice-records : records_of twice_sheet ≡ twice_records
 unfolding twice_sheet comparison_of reading read_from read_at row_at row_of signed32 unsigned_at
 twice-records = refl
 
-twice-check : check_of twice_sheet ≡ Done 5
+twice-check : check_of twice_sheet ≡ Ok 5
 unfolding twice_sheet is_version check_of check_records first_unmet last_sort reading read_from read_at row_at row_of unsigned_at
 twice-check = refl
 

@@ -1,4 +1,5 @@
 -- What zone_refine returns: code 0 exactly if no row of the table refuses, and if one does the lent buffer is unchanged.
+use Rattle.std.specs.Prelude.{Err}
 use mathlib.Core.Path.{◌≡◌, refl, sym, ap}
 use mathlib.Core.List.{List, []}
 use Prim.Native.Nat.{ℕ, ◌≤◌}
@@ -8,8 +9,7 @@ use lib.Dec.{ltb}
 use lib.ListN.{length}
 use Rattle.integers.proofs.First.{each_first}
 use Rattle.integers.proofs.Order.{by-test}
-use Rattle.replies.specs.declared.Reply.{Reply}
-use Rattle.replies.specs.declared.Reply.TheVariants.{Refused}
+use Rattle.replies.specs.Table.{Reply}
 use Rattle.replies.proofs.Told.{not-refused}
 use Rattle.sheet.specs.declared.Record.{Record}
 use Rattle.sheet.specs.Records.{records_of}
@@ -41,7 +41,7 @@ use Rattle.demands.proofs.Outcomes.{Kept, solid-kept, refused_why, row-7}
 pub refine-unchanged : (sheet map : List ℕ) (d : ℕ) (before : List ℕ) → ((zone_refine_of sheet map d before).reply.code ≡ 0 → ⊥) → (zone_refine_of sheet map d before).buffer ≡ before
 unfolding zone_refine_of refine_of
 refine-unchanged sheet map d before =
-    each_first (Kept before) (λ why. outcome (Refused why) before) _ (pair_refusal sheet map) (λ why _. refl)
+    each_first (Kept before) (λ why. outcome (Err why) before) _ (pair_refusal sheet map) (λ why _. refl)
     (by-test (ltb d (root_of map).d) (λ t. rw t (λ _. refl)) (λ t. rw t (solid-kept before (λ rs. refined_map (solid_state rs) map) (records_of sheet) (at_depth d (root_of map)))))
 
 -- ---- a sheet that is refused

@@ -1,4 +1,5 @@
 -- What request 2026-01 asks for: the refined map, refining in two steps, equality with a map built afresh, and demand 3.
+use Rattle.std.specs.Prelude.{Err}
 use mathlib.Core.Path.{◌≡◌, refl, sym, ap, ◌∙◌}
 use mathlib.Core.Bool.{true}
 use mathlib.Core.List.{List, [], ◌∷◌}
@@ -8,7 +9,6 @@ use borrow.Author.Tests.{le-ltb}
 use lib.ListN.{length}
 use Rattle.integers.specs.First.{on_first}
 use Rattle.replies.specs.declared.Refusal.{Refusal}
-use Rattle.replies.specs.declared.Reply.TheVariants.{Refused}
 use Rattle.replies.specs.Table.{refusal_of}
 use Rattle.sheet.specs.declared.Record.{Record}
 use Rattle.sheet.specs.Records.{records_of}
@@ -180,7 +180,7 @@ from-gray sheet root limits before =
     rw (gray-opens root top (has_face (records_of sheet)), gray-root root top, le-ltb root.d 0 (omega arith))
     (ap outcome_by_number
     (one-first (refusal_of (check_of sheet)) _ _
-    ∙ ap (on_first (refusal_of (check_of sheet)) (λ why. outcome (Refused why) before)) (over-same (λ rs. refined_map (solid_state rs) (gray_map root)) built_map (records_of sheet) root before (gray-builds root top (records_of sheet)))))
+    ∙ ap (on_first (refusal_of (check_of sheet)) (λ why. outcome (Err why) before)) (over-same (λ rs. refined_map (solid_state rs) (gray_map root)) built_map (records_of sheet) root before (gray-builds root top (records_of sheet)))))
 
 -- ---- so a map that was built, refined, is the one built afresh
 pub as-built : (sheet map : List ℕ) (built : Built sheet map) (d : ℕ) → built.root.d ≤ d → (before : List ℕ) → zone_refine_of sheet map d before ≡ zone_build_of sheet (at_depth d built.root) before

@@ -1,4 +1,5 @@
 -- Request 2026-11: where row 7 does not refuse, row 11 would not either, so dropping it changed no outcome; and no call returns 11.
+use Rattle.std.specs.Prelude.{Err, Ok}
 use mathlib.Core.Path.{◌≡◌, refl}
 use mathlib.Core.List.{List, [], ◌∷◌, ◌++◌}
 use Prim.Native.Nat.{ℕ, zero, suc, ◌+◌, ◌^◌}
@@ -11,8 +12,7 @@ use Rattle.integers.proofs.Order.{by-test}
 use Rattle.interval.specs.Rules.{sum, difference, span, product, square}
 use Rattle.interval.specs.Limit.{is_small, past_end}
 use Rattle.replies.specs.declared.End.TheVariants.{Low, High}
-use Rattle.replies.specs.declared.Reply.{Reply}
-use Rattle.replies.specs.declared.Reply.TheVariants.{Done, Refused}
+use Rattle.replies.specs.Table.{Reply}
 use Rattle.replies.specs.Table.{over}
 use Rattle.replies.proofs.Told.{no_code}
 use Rattle.sheet.specs.declared.Record.{Record}
@@ -83,8 +83,8 @@ module _ (sheet : List ℕ) (root : Root) (before : List ℕ) where
 
 -- ---- the code
 never-11 : (r : Reply) → Never 11 (by_number r)
-never-11 (Done n) e = omega arith
-never-11 (Refused why) e = no_code 11 refl why e
+never-11 (Ok n) e = omega arith
+never-11 (Err why) e = no_code 11 refl why e
 
 pub reply-11 : Reply11
 unfolding zone_check_of zone_build_of zone_refine_of zone_open_of zone_lookup_of

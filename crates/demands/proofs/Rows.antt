@@ -25,7 +25,7 @@ use Rattle.building.specs.Build.{Outcome, map_by, built_map, stored_of, build_of
 use Rattle.tree.proofs.Rows.{depth-2, strict-2, one-face}
 use Rattle.building.proofs.Rows.{map-1, strict-map-1, build-0, build-1, build-2}
 use Rattle.lookup.proofs.Rows.{by-face-5, inside-2-0-0, outside-3-0-0, undecided-2-2-0, not-in-root-4-0-0, strict-2-0-0, strict-2-2-0, strict-by-face-5}
-use Rattle.lookup.specs.declared.Reply.{Reply}
+use Rattle.lookup.specs.Lookup.{Reply}
 use Rattle.lookup.specs.Lookup.{lookup_of, numbered}
 use Rattle.zone.specs.Replies.{reply, by_number, zone_outcome, outcome_by_number, zone_build_of, zone_lookup_of}
 use Rattle.demands.specs.Rows.{AllHold, eleven_rows, strict_rows}

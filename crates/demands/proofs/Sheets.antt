@@ -1,4 +1,5 @@
 -- What zone_check returns for a sheet: code 0 exactly if rows 1 to 5 accept it, and otherwise the reply of the first of them that does not.
+use Rattle.std.specs.Prelude.{Err, Ok}
 use mathlib.Core.Path.{◌≡◌, refl, ◌∙◌}
 use mathlib.Core.Bool.{true, false}
 use mathlib.Core.Logic.{◌⊎◌, inl, inr, ⊎_elim}
@@ -11,7 +12,6 @@ use lib.ListN.{length}
 use Rattle.bigendian.specs.Numbers.{unsigned_at}
 use Rattle.integers.proofs.Order.{by-test}
 use Rattle.replies.specs.declared.Refusal.TheVariants.{Solid}
-use Rattle.replies.specs.declared.Reply.TheVariants.{Done, Refused}
 use Rattle.sheet.specs.declared.Record.{Record}
 use Rattle.sheet.specs.declared.Sort.{Sort}
 use Rattle.sheet.specs.declared.Sort.TheVariants.{Neither, Arithmetic, Logical}
@@ -53,7 +53,7 @@ version-other : (version : ℕ) → ((version ≡ 1) ⊎ (version ≡ 2) → ⊥
 version-other version n = by-test (is_version version) (λ t. absurd (n (version-told version t))) (λ t. t)
 
 -- ---- the records
-solid-refused : (sort : Sort) (m : ℕ) → (sort ≡ Logical → ⊥) → solid_of sort m ≡ Refused (Solid m)
+solid-refused : (sort : Sort) (m : ℕ) → (sort ≡ Logical → ⊥) → solid_of sort m ≡ Err (Solid m)
 solid-refused Neither m h = refl
 solid-refused Arithmetic m h = refl
 solid-refused Logical m h = absurd (h refl)
@@ -63,7 +63,7 @@ module _ (s : List ℕ) where
   abbrev rs : List Record
   rs = records_of s
 
-  pub check-good : (n : ℕ) → check_of s ≡ Done n → GoodSheet s
+  pub check-good : (n : ℕ) → check_of s ≡ Ok n → GoodSheet s
   check-good n e =
       let t = check-parts s n e in
       let l = length-told s t.0 in
@@ -79,7 +79,7 @@ module _ (s : List ℕ) where
     unfolding check_records
     met-records e = on-records ∙ rw (e, le-ltb (length rs) (length rs) (omega arith))
 
-  pub good-check : GoodSheet s → check_of s ≡ Done (length rs)
+  pub good-check : GoodSheet s → check_of s ≡ Ok (length rs)
   good-check g = met-records (length-good s g.long g.agrees) g.version g.framed (all-operands rs g.operands) ∙ rw g.solid
 
   pub checks : DoneWhere (GoodSheet s) (zone_check_of s) (length rs)

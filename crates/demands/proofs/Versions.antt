@@ -1,4 +1,5 @@
 -- What request 2026-07 asks for: the rule of each version, what two sheets with equal records share, where they differ, and that their leaves may touch.
+use Rattle.std.specs.Prelude.{Err, Ok}
 use mathlib.Core.Path.{◌≡◌, refl, sym, ap, ap₂, ◌∙◌}
 use mathlib.Core.Bool.{Bool, true, false, cond, not, ◌&&◌, ◌||◌}
 use mathlib.Core.Logic.{◌⊎◌, inl, inr, ◌↔◌}
@@ -16,7 +17,6 @@ use Rattle.integers.proofs.Order.{≤-both, by-test, le_z-true, le_z-false, lt_z
 use Rattle.replies.specs.declared.Refusal.{Refusal}
 use Rattle.replies.specs.declared.Refusal.TheVariants.{Limits, OverRoot, NotInRoot}
 use Rattle.replies.specs.declared.Over.{Over}
-use Rattle.replies.specs.declared.Reply.TheVariants.{Refused as Refuses}
 use Rattle.replies.specs.Table.{refusal_of}
 use Rattle.sheet.specs.declared.Comparison.{Comparison}
 use Rattle.sheet.specs.declared.Comparison.TheVariants.{AtMost, LessThan}
@@ -49,8 +49,7 @@ use Rattle.pair.specs.Pairs.{pair_refusal}
 use Rattle.building.specs.Build.{Outcome, outcome, built_map, stored_of, over_root_with, build_with}
 use Rattle.refine.specs.Refine.{refine_of}
 use Rattle.lookup.specs.declared.Answer.{Answer}
-use Rattle.lookup.specs.declared.Reply.{Reply}
-use Rattle.lookup.specs.declared.Reply.TheVariants.{Done, Refused}
+use Rattle.lookup.specs.Lookup.{Reply}
 use Rattle.lookup.specs.Lookup.{answer_of, leaf_holding, numbered, point_reply, lookup_of}
 use Rattle.zone.specs.Replies.{by_number, zone_check_of, zone_build_of, zone_refine_of, zone_lookup_of}
 use Rattle.demands.specs.Terms.{Built, Touches, GoodSheet, refined_of, NoTouch}
@@ -92,13 +91,13 @@ module _ (sheet : List ℕ) (good : GoodSheet sheet) (f : ℕ) (face : has_face 
 -- building and looking up, from what the table of replies tests
 abbrev over_root : List Refusal → Bool → List Over → List ℕ → List ℕ → Outcome
 over_root refused outside past map out =
-    on_first refused (λ why. outcome (Refuses why) out)
-    (cond outside (outcome (Refuses Limits) out)
-    (on_first past (λ o. outcome (Refuses (OverRoot o)) out)
+    on_first refused (λ why. outcome (Err why) out)
+    (cond outside (outcome (Err Limits) out)
+    (on_first past (λ o. outcome (Err (OverRoot o)) out)
     (stored_of map out)))
 
 abbrev at_point : List Refusal → List Over → Bool → Answer → Reply
-at_point refused past outside answer = on_first refused Refused (on_first past (λ o. Refused (OverRoot o)) (cond outside (Refused NotInRoot) (Done answer)))
+at_point refused past outside answer = on_first refused Err (on_first past (λ o. Err (OverRoot o)) (cond outside (Err NotInRoot) (Ok answer)))
 
 -- a map is stored or does not fit
 stored-code : (map out : List ℕ) → ((by_number (stored_of map out).reply).code ≡ 0) ⊎ ((by_number (stored_of map out).reply).code ≡ 8)

@@ -1,5 +1,6 @@
 -- Facts for the proofs of the functions that work a product out by the signs of its operands, in the form that the proofs need: the machine reads a number
 -- back from its bits.
+use Rattle.std.specs.Prelude.{Result}
 use mathlib.Core.Path.{◌≡◌, sym, ap, ap₂, ◌∙◌}
 use mathlib.Core.Bool.{Bool, true, false, cond, and-eq-true_iff, true≢false}
 use Prim.Native.Nat.{◌≤◌, ◌^◌}
@@ -17,9 +18,9 @@ use Rattle.interval.specs.Rules.{from, product}
 use Rattle.interval.specs.Limit.{SmallEnds, bounded_of}
 use Rattle.interval.specs.Inner.{OrderedEnds, is_across, both_across, clamp_of, clamped, ordered_of, by_sign, least_factor, greatest_factor}
 use Rattle.interval.specs.declared.Interval.{Interval}
-use Rattle.interval.specs.declared.Bounded.{Bounded}
 use Rattle.interval.proofs.Limit.{limit-back, clamp-keeps, bounded-clamped}
 use Rattle.interval.proofs.Signs.{product-commutes, product-swapped, above-above, above-below, above-across, below-above, below-below, below-across, across-above, across-below, across-across}
+use Rattle.replies.specs.declared.End.{End}
 
 -- ---- ordered
 module _ (i : Interval) (fl : SFits w64 i.low) (fh : SFits w64 i.high) where
@@ -143,7 +144,7 @@ product-ordered : (i j : Interval) → product (ordered_of i) j ≡ product i j
 unfolding ordered_of
 product-ordered i j = by-test (le_z i.low i.high) (λ t. rw t) (λ t. rw t (product-swapped i j))
 
-pub product-told : (r : Bounded) (i j k l c : Interval) → r ≡ bounded_of c → c ≡ clamped (product k l) → k ≡ ordered_of i → l ≡ ordered_of j → r ≡ bounded_of (product i j)
+pub product-told : (r : Result Interval End) (i j k l c : Interval) → r ≡ bounded_of c → c ≡ clamped (product k l) → k ≡ ordered_of i → l ≡ ordered_of j → r ≡ bounded_of (product i j)
 unfolding clamped
 product-told r i j k l c e f ek el =
     let same : product k l ≡ product i j = ap₂ product ek el ∙ product-ordered i (ordered_of j) ∙ product-commutes i (ordered_of j) ∙ product-ordered j i ∙ product-commutes j i in

@@ -1,4 +1,5 @@
 -- What a caller learns from an interval tested against the limit: which interval it is, and that its ends are within the limit, or which end is not.
+use Rattle.std.specs.Prelude.{Err, Ok, Result}
 use mathlib.Core.Path.{◌≡◌, sym, ap, ◌∙◌}
 use mathlib.Core.Bool.{true, false}
 use mathlib.Core.List.{[], ◌∷◌}
@@ -9,8 +10,6 @@ use Rattle.replies.specs.declared.End.{End}
 use Rattle.replies.specs.declared.End.TheVariants.{Low, High}
 use Rattle.interval.specs.Limit.{SmallEnds, is_small, past_end, bounded_of}
 use Rattle.interval.specs.declared.Interval.{Interval}
-use Rattle.interval.specs.declared.Bounded.{Bounded}
-use Rattle.interval.specs.declared.Bounded.TheVariants.{Within, Past}
 use Rattle.interval.proofs.Limit.{small-true, small-test}
 
 -- ---- the three cases of the test
@@ -40,23 +39,23 @@ module _ (i : Interval) where
   ends-within s = neither-past (small-test i.low s.low) (small-test i.high s.high)
 
   -- what is returned in each
-  pub bounded-past : (end : End) → past_end i ≡ end ∷ [] → Past end ≡ bounded_of i
+  pub bounded-past : (end : End) → past_end i ≡ end ∷ [] → Err end ≡ bounded_of i
   unfolding bounded_of
   bounded-past end h = rw h
 
-  pub bounded-within : past_end i ≡ [] → Within i ≡ bounded_of i
+  pub bounded-within : past_end i ≡ [] → Ok i ≡ bounded_of i
   unfolding bounded_of
   bounded-within h = rw h
 
 -- ---- what follows from the returned r
-module _ (r : Bounded) (i : Interval) (e : r ≡ bounded_of i) where
-  cases : {A : Type 0} → (SmallEnds i → r ≡ Within i → A) → ((end : End) → past_end i ≡ end ∷ [] → r ≡ Past end → A) → A
+module _ (r : Result Interval End) (i : Interval) (e : r ≡ bounded_of i) where
+  cases : {A : Type 0} → (SmallEnds i → r ≡ Ok i → A) → ((end : End) → past_end i ≡ end ∷ [] → r ≡ Err end → A) → A
   cases within past = by_end i (λ s h. within s (e ∙ sym (bounded-within i h))) (λ end h. past end h (e ∙ sym (bounded-past i end h)))
 
-  pub past_is : (end : End) → r ≡ Past end → past_end i ≡ end ∷ []
+  pub past_is : (end : End) → r ≡ Err end → past_end i ≡ end ∷ []
   past_is end p = cases (λ s h. let z : ◌≡◌ {A = ℕ} 0 1 = cc in absurd (omega arith)) (λ other q h. q ∙ ap (λ (x : End). x ∷ []) (let z : other ≡ end = cc in z))
 
-  module _ (j : Interval) (w : r ≡ Within j) where
+  module _ (j : Interval) (w : r ≡ Ok j) where
     pub within-is : j ≡ i
     within-is = cases (λ s h. cc) (λ end q h. let z : ◌≡◌ {A = ℕ} 0 1 = cc in absurd (omega arith))
 

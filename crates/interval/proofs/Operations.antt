@@ -1,4 +1,5 @@
 -- Facts for the proofs of the sum, the difference and the square of intervals, in the form that the proofs need: the machine reads a number back from its bits.
+use Rattle.std.specs.Prelude.{Result}
 use mathlib.Core.Path.{◌≡◌, ap, ap₂, ◌∙◌}
 use mathlib.Core.Bool.{true, false}
 use Prim.Native.Nat.{◌≤◌, ◌<◌, ◌^◌}
@@ -13,11 +14,11 @@ use Rattle.interval.specs.Rules.{from, sum, difference, square}
 use Rattle.interval.specs.Limit.{SmallEnds, is_small, bounded_of}
 use Rattle.interval.specs.Inner.{clamp_of}
 use Rattle.interval.specs.declared.Interval.{Interval}
-use Rattle.interval.specs.declared.Bounded.{Bounded}
 use Rattle.interval.proofs.Limit.{limit-back, sum_back, difference-back, clamp-keeps, bounded-clamped}
+use Rattle.replies.specs.declared.End.{End}
 
 -- ---- the sum and the difference
-module _ (r : Bounded) (i j : Interval) (si : SmallEnds i) (sj : SmallEnds j) where
+module _ (r : Result Interval End) (i j : Interval) (si : SmallEnds i) (sj : SmallEnds j) where
   pub sum_told : r ≡ bounded_of (from (to_z w64 (of_z w64 (to_z w64 (of_z w64 i.low) +ℤ to_z w64 (of_z w64 j.low)))) (to_z w64 (of_z w64 (to_z w64 (of_z w64 i.high) +ℤ to_z w64 (of_z w64 j.high)))))
       → r ≡ bounded_of (sum i j)
   unfolding sum
@@ -34,7 +35,7 @@ pub times-told : (r a b : ℤ) → nat_abs a ≤ 2 ^ 60 → nat_abs b ≤ 2 ^ 60
 times-told r a b ha hb e h = again w64 r (clamp_of (a *ℤ b)) (rw (limit-back a ha, limit-back b hb) at e) h
 
 -- aa and bb are the squares of the ends, clamped
-module _ (r : Bounded) (i : Interval) (aa bb : ℤ) (s : SmallEnds i) (ea : aa ≡ clamp_of (i.low *ℤ i.low)) (eb : bb ≡ clamp_of (i.high *ℤ i.high)) where
+module _ (r : Result Interval End) (i : Interval) (aa bb : ℤ) (s : SmallEnds i) (ea : aa ≡ clamp_of (i.low *ℤ i.low)) (eb : bb ≡ clamp_of (i.high *ℤ i.high)) where
   read_low : to_z w64 (of_z w64 i.low) ≡ i.low
   read_low = limit-back i.low s.low
 

@@ -1,4 +1,5 @@
 -- Worked rows of the rules and of the limit, each by computation: the paper's, and those at an edge.
+use Rattle.std.specs.Prelude.{Err, Ok}
 use mathlib.Core.Path.{◌≡◌, refl}
 use Prim.Native.Nat.{ℕ, ◌+◌, ◌-◌, ◌^◌}
 use lib.IntN.{ℤ, pos, neg_ℤ}
@@ -6,7 +7,7 @@ use Rattle.integers.specs.Least.{lesser_of, greater_of}
 use Rattle.replies.specs.declared.End.TheVariants.{Low, High}
 use Rattle.interval.specs.Rules.{from, only, span, sum, difference, product, square}
 use Rattle.interval.specs.Limit.{is_small, past_end, bounded_of}
-use Rattle.interval.specs.declared.Bounded.TheVariants.{Within, Past}
+use Rattle.replies.specs.declared.End.{End}
 
 abbrev minus : ℕ → ℤ
 minus n = neg_ℤ (pos n)
@@ -65,36 +66,36 @@ rule-rows = record {
 }
 
 record LimitRows : Type 0 where
-  greatest-end : bounded_of (only (pos (2 ^ 60))) ≡ Within (only (pos (2 ^ 60)))
-  past-greatest : bounded_of (from (pos 0) (pos (2 ^ 60 + 1))) ≡ Past High
-  least-end : bounded_of (only (minus (2 ^ 60))) ≡ Within (only (minus (2 ^ 60)))
-  past-least : bounded_of (from (minus (2 ^ 60 + 1)) (pos 0)) ≡ Past Low
-  whole-limit : bounded_of (from (minus (2 ^ 60)) (pos (2 ^ 60))) ≡ Within (from (minus (2 ^ 60)) (pos (2 ^ 60)))
+  greatest-end : bounded_of (only (pos (2 ^ 60))) ≡ Ok (only (pos (2 ^ 60)))
+  past-greatest : bounded_of (from (pos 0) (pos (2 ^ 60 + 1))) ≡ Err High
+  least-end : bounded_of (only (minus (2 ^ 60))) ≡ Ok (only (minus (2 ^ 60)))
+  past-least : bounded_of (from (minus (2 ^ 60 + 1)) (pos 0)) ≡ Err Low
+  whole-limit : bounded_of (from (minus (2 ^ 60)) (pos (2 ^ 60))) ≡ Ok (from (minus (2 ^ 60)) (pos (2 ^ 60)))
   -- the low end counts first
-  past-both : bounded_of (from (minus (2 ^ 60 + 1)) (pos (2 ^ 60 + 1))) ≡ Past Low
+  past-both : bounded_of (from (minus (2 ^ 60 + 1)) (pos (2 ^ 60 + 1))) ≡ Err Low
   -- and it is outside above 2^60 as well as below -2^60
-  all_above : bounded_of (from (pos (2 ^ 60 + 1)) (pos (2 ^ 60 + 2))) ≡ Past Low
-  all-below : bounded_of (from (minus (2 ^ 60 + 2)) (minus (2 ^ 60 + 1))) ≡ Past Low
-  from-limit-up : bounded_of (from (pos (2 ^ 60)) (pos (2 ^ 60 + 1))) ≡ Past High
-  up-to-limit : bounded_of (from (minus (2 ^ 60 + 1)) (pos (2 ^ 60))) ≡ Past Low
+  all_above : bounded_of (from (pos (2 ^ 60 + 1)) (pos (2 ^ 60 + 2))) ≡ Err Low
+  all-below : bounded_of (from (minus (2 ^ 60 + 2)) (minus (2 ^ 60 + 1))) ≡ Err Low
+  from-limit-up : bounded_of (from (pos (2 ^ 60)) (pos (2 ^ 60 + 1))) ≡ Err High
+  up-to-limit : bounded_of (from (minus (2 ^ 60 + 1)) (pos (2 ^ 60))) ≡ Err Low
   -- an operand's other end makes the record pass
-  past-by-high-end : bounded_of (difference (only (minus 1)) (from (pos 0) (pos (2 ^ 60)))) ≡ Past Low
-  past-by-turned-end : bounded_of (product (from (minus 2) (minus 1)) (only (minus (2 ^ 60)))) ≡ Past High
-  past-by-low-end : bounded_of (square (from (minus (2 ^ 30 + 1)) (minus (2 ^ 30)))) ≡ Past High
-  sum-to-limit : bounded_of (sum (only (pos (2 ^ 59))) (only (pos (2 ^ 59)))) ≡ Within (only (pos (2 ^ 60)))
-  square-to-limit : bounded_of (square (only (pos (2 ^ 30)))) ≡ Within (only (pos (2 ^ 60)))
-  square-past-limit : bounded_of (square (only (pos (2 ^ 30 + 1)))) ≡ Past Low
-  product-to-limit : bounded_of (product (only (pos (2 ^ 40))) (only (pos (2 ^ 20)))) ≡ Within (only (pos (2 ^ 60)))
-  product-past-limit : bounded_of (product (only (pos (2 ^ 40 + 1))) (only (pos (2 ^ 20)))) ≡ Past Low
+  past-by-high-end : bounded_of (difference (only (minus 1)) (from (pos 0) (pos (2 ^ 60)))) ≡ Err Low
+  past-by-turned-end : bounded_of (product (from (minus 2) (minus 1)) (only (minus (2 ^ 60)))) ≡ Err High
+  past-by-low-end : bounded_of (square (from (minus (2 ^ 30 + 1)) (minus (2 ^ 30)))) ≡ Err High
+  sum-to-limit : bounded_of (sum (only (pos (2 ^ 59))) (only (pos (2 ^ 59)))) ≡ Ok (only (pos (2 ^ 60)))
+  square-to-limit : bounded_of (square (only (pos (2 ^ 30)))) ≡ Ok (only (pos (2 ^ 60)))
+  square-past-limit : bounded_of (square (only (pos (2 ^ 30 + 1)))) ≡ Err Low
+  product-to-limit : bounded_of (product (only (pos (2 ^ 40))) (only (pos (2 ^ 20)))) ≡ Ok (only (pos (2 ^ 60)))
+  product-past-limit : bounded_of (product (only (pos (2 ^ 40 + 1))) (only (pos (2 ^ 20)))) ≡ Err Low
   -- (2^30 - 1)(2^30 + 1) = 2^60 - 1, and 4562284561 × 252707057 = 2^60 + 1
-  product-before-limit : bounded_of (product (only (pos (2 ^ 30 - 1))) (only (pos (2 ^ 30 + 1)))) ≡ Within (only (pos (2 ^ 60 - 1)))
-  product-past-by-one : bounded_of (product (only (pos 4562284561)) (only (pos 252707057))) ≡ Past Low
-  product-to-least : bounded_of (product (only (minus (2 ^ 30))) (only (pos (2 ^ 30)))) ≡ Within (only (minus (2 ^ 60)))
-  product-past-least-by-one : bounded_of (product (only (minus 4562284561)) (only (pos 252707057))) ≡ Past Low
-  across-to-limit : bounded_of (product (from (minus (2 ^ 30)) (pos (2 ^ 30))) (from (minus (2 ^ 30)) (pos (2 ^ 30)))) ≡ Within (from (minus (2 ^ 60)) (pos (2 ^ 60)))
-  across-past-limit : bounded_of (product (from (minus (2 ^ 30)) (pos 4562284561)) (from (minus (2 ^ 20)) (pos 252707057))) ≡ Past High
-  zero-of-limit : bounded_of (product (only (pos 0)) (only (pos (2 ^ 60)))) ≡ Within (only (pos 0))
-  turned-limit : bounded_of (product (only (minus (2 ^ 60))) (only (minus 1))) ≡ Within (only (pos (2 ^ 60)))
+  product-before-limit : bounded_of (product (only (pos (2 ^ 30 - 1))) (only (pos (2 ^ 30 + 1)))) ≡ Ok (only (pos (2 ^ 60 - 1)))
+  product-past-by-one : bounded_of (product (only (pos 4562284561)) (only (pos 252707057))) ≡ Err Low
+  product-to-least : bounded_of (product (only (minus (2 ^ 30))) (only (pos (2 ^ 30)))) ≡ Ok (only (minus (2 ^ 60)))
+  product-past-least-by-one : bounded_of (product (only (minus 4562284561)) (only (pos 252707057))) ≡ Err Low
+  across-to-limit : bounded_of (product (from (minus (2 ^ 30)) (pos (2 ^ 30))) (from (minus (2 ^ 30)) (pos (2 ^ 30)))) ≡ Ok (from (minus (2 ^ 60)) (pos (2 ^ 60)))
+  across-past-limit : bounded_of (product (from (minus (2 ^ 30)) (pos 4562284561)) (from (minus (2 ^ 20)) (pos 252707057))) ≡ Err High
+  zero-of-limit : bounded_of (product (only (pos 0)) (only (pos (2 ^ 60)))) ≡ Ok (only (pos 0))
+  turned-limit : bounded_of (product (only (minus (2 ^ 60))) (only (minus 1))) ≡ Ok (only (pos (2 ^ 60)))
 
 limit-rows : LimitRows
 unfolding sum difference span product square lesser_of greater_of is_small past_end bounded_of

@@ -1,11 +1,9 @@
 -- The limit: an end lies in -2^60 to 2^60.
-use Rattle.std.specs.Prelude.{Bool, cond, List, [], ◌∷◌, ◌≤◌, ◌^◌, leb, ℤ, nat_abs}
+use Rattle.std.specs.Prelude.{Bool, cond, List, [], ◌∷◌, ◌≤◌, ◌^◌, leb, ℤ, nat_abs, Err, Ok, Result}
 use Rattle.integers.specs.First.{on_first}
 use Rattle.replies.specs.declared.End.{End}
 use Rattle.replies.specs.declared.End.TheVariants.{Low, High}
 use Rattle.interval.specs.declared.Interval.{Interval}
-use Rattle.interval.specs.declared.Bounded.{Bounded}
-use Rattle.interval.specs.declared.Bounded.TheVariants.{Within, Past}
 
 -- a number lies in -2^60 to 2^60
 unfoldable pub is_small : ℤ → Bool
@@ -16,8 +14,8 @@ unfoldable pub past_end : Interval → List End
 past_end i = cond (is_small i.low) (cond (is_small i.high) [] (High ∷ [])) (Low ∷ [])
 
 -- the interval, or the end past the limit
-unfoldable pub bounded_of : Interval → Bounded
-bounded_of i = on_first (past_end i) Past (Within i)
+unfoldable pub bounded_of : Interval → Result Interval End
+bounded_of i = on_first (past_end i) Err (Ok i)
 
 -- both ends lie in -2^60 to 2^60, as an operation requires of its operands
 pub record SmallEnds (i : Interval) : Type 0 where

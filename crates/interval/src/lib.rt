@@ -26,13 +26,6 @@ pub struct Interval {
     pub high: i64,
 }
 
-// An interval with both ends within the limit, or the end past it: the low one if it is, otherwise the high one.
-#[derive(Clone, Copy)]
-pub enum Bounded {
-    Within(Interval),
-    Past(End),
-}
-
 // Whether x lies in -2^60 to 2^60.
 fn is_small(x: i64) -> bool
     ensures { result ≡ is_small x }
@@ -100,19 +93,19 @@ fn greater(a: i64, b: i64) -> i64
 
 impl Interval {
     // The interval if both its ends lie within the limit, otherwise the end past it, of which the low one counts first.
-    pub fn limited(self) -> Bounded
+    pub fn limited(self) -> Result<Interval, End>
         ensures { result ≡ bounded_of self }
     {
         if !is_small(self.low) {
-            return Bounded::Past(End::Low);
+            return Err(End::Low);
         }
         if !is_small(self.high) {
-            return Bounded::Past(End::High);
+            return Err(End::High);
         }
-        Bounded::Within(self)
+        Ok(self)
     }
 
-    pub fn sum(self, other: Interval) -> Bounded
+    pub fn sum(self, other: Interval) -> Result<Interval, End>
         requires fact_1 { SmallEnds self }
         requires fact_2 { SmallEnds other }
         ensures { result ≡ bounded_of (sum self other) }
@@ -122,7 +115,7 @@ impl Interval {
         Interval { low, high }.limited()
     }
 
-    pub fn difference(self, other: Interval) -> Bounded
+    pub fn difference(self, other: Interval) -> Result<Interval, End>
         requires fact_1 { SmallEnds self }
         requires fact_2 { SmallEnds other }
         ensures { result ≡ bounded_of (difference self other) }
@@ -230,7 +223,7 @@ impl Interval {
         self.two_corners(other)
     }
 
-    pub fn product(self, other: Interval) -> Bounded
+    pub fn product(self, other: Interval) -> Result<Interval, End>
         requires fact_1 { SmallEnds self }
         requires fact_2 { SmallEnds other }
         ensures { result ≡ bounded_of (product self other) }
@@ -238,7 +231,7 @@ impl Interval {
         self.ordered().corners(other.ordered()).limited()
     }
 
-    pub fn square(self) -> Bounded
+    pub fn square(self) -> Result<Interval, End>
         requires { SmallEnds self }
         ensures { result ≡ bounded_of (square self) }
     {

@@ -1,4 +1,5 @@
 -- A map that `build` has written opens.
+use Rattle.std.specs.Prelude.{Ok}
 use mathlib.Core.Path.{◌≡◌, sym, ap, ◌∙◌}
 use mathlib.Core.Bool.{Bool}
 use mathlib.Core.List.{List, []}
@@ -8,8 +9,7 @@ use lib.ListN.{length, take, drop, length-append}
 use lib.Seq.{length-take-le, take-append_seam}
 use mir.Syntax.{w32}
 use mir.Val.{SFits}
-use Rattle.replies.specs.declared.Reply.{Reply}
-use Rattle.replies.specs.declared.Reply.TheVariants.{Done}
+use Rattle.replies.specs.Table.{Reply}
 use Rattle.sheet.specs.Records.{records_of}
 use Rattle.cube.specs.declared.Root.{Root}
 use Rattle.cube.proofs.Passed.{passed_root, same-root}
@@ -18,7 +18,7 @@ use Rattle.building.specs.Build.{outcome, built_map, build_of}
 use Rattle.building.proofs.Answers.{Made, done-made}
 use Rattle.roundtrip.proofs.Built.{built-opens, built-root}
 
-module _ (s : List ℕ) (r : Root) (out after : List ℕ) (reply : Reply) (n : ℕ) (x : SFits w32 r.x) (y : SFits w32 r.y) (z : SFits w32 r.z) (e : outcome reply after ≡ build_of s (passed_root r.x r.y r.z r.k r.d) out) (t : reply ≡ Done n) where
+module _ (s : List ℕ) (r : Root) (out after : List ℕ) (reply : Reply) (n : ℕ) (x : SFits w32 r.x) (y : SFits w32 r.y) (z : SFits w32 r.z) (e : outcome reply after ≡ build_of s (passed_root r.x r.y r.z r.k r.d) out) (t : reply ≡ Ok n) where
   abbrev map : List ℕ
   map = built_map (records_of s) r
 

@@ -6,7 +6,7 @@ ghost use Rattle.std.specs.Prelude.{◌≡◌, Bool, [], ℕ, ◌≤◌, length}
 ghost use Rattle.zonemap.specs.Opening.{root_of, fault_of};
 
 use cube::Root;
-use replies::Reply;
+use replies::Refusal;
 use zonemap::Met;
 
 // Where the sheet begins in the input.
@@ -17,7 +17,7 @@ fn main(rt: HostRuntime) {
     let mut input = [0u8; 4097];
     let n = buffers::read_full(&mut rt.stdin(), &mut input);
     if n < SHEET_FROM || n > 4096 {
-        refuse(&rt, 1, 0);
+        refuse(&rt, Refusal::Length);
         return;
     }
     list(&rt, &input[..n]);
@@ -51,11 +51,11 @@ fn list(rt: &impl Print, s: &[u8])
         root.d,
         &mut map,
     ) {
-        Reply::Done(n) => {
+        Ok(n) => {
             leaves(rt, &map[..n], root);
         }
-        Reply::Refused(why) => {
-            refuse(rt, why.code(), why.number());
+        Err(why) => {
+            refuse(rt, why);
         }
     }
 }
@@ -65,12 +65,14 @@ fn head(rt: &impl Print, root: Root, leaves: i64) {
     let _word = print!(rt; "map ");
     line(
         rt,
-        root.x as i64,
-        root.y as i64,
-        root.z as i64,
-        root.k as i64,
-        root.d as i64,
-        leaves,
+        [
+            root.x as i64,
+            root.y as i64,
+            root.z as i64,
+            root.k as i64,
+            root.d as i64,
+            leaves,
+        ],
     );
 }
 
@@ -82,12 +84,10 @@ fn leaves(rt: &impl Print, map: &[u8], root: Root)
     let count = zonemap::leaf_count(map);
     head(rt, root, count as i64);
     let mut place = 0;
-    let mut i = 0;
-    while i < count {
+    for i in 0..count {
         let met = zonemap::meet(map, root, i, place);
         leaf(rt, met);
         place = met.next;
-        i += 1;
     }
 }
 
@@ -97,26 +97,29 @@ fn leaf(rt: &impl Print, met: Met) {
     let cube = met.cube;
     line(
         rt,
-        leaf.level as i64,
-        cube.x as i64,
-        cube.y as i64,
-        cube.z as i64,
-        leaf.class as i64,
-        leaf.face as i64,
+        [
+            leaf.level as i64,
+            cube.x as i64,
+            cube.y as i64,
+            cube.z as i64,
+            leaf.class as i64,
+            leaf.face as i64,
+        ],
     );
 }
 
 // Writes a line of six numbers.
-fn line(rt: &impl Print, a: i64, b: i64, c: i64, d: i64, e: i64, f: i64) {
+fn line(rt: &impl Print, numbers: [i64; 6]) {
     let mut out = [0u8; 126];
-    let end = text::put_line(&mut out, a, b, c, d, e, f);
+    let end = text::put_line(&mut out, numbers);
     let _line = rt.write_all(&out[..end]);
 }
 
 // Writes `refused`, the code and the number. A reply's number is far below 2^63, so taking the remainder does not change it.
-fn refuse(rt: &impl Print, code: u32, number: usize) {
+fn refuse(rt: &impl Print, why: Refusal) {
     let _word = print!(rt; "refused ");
     let mut out = [0u8; 42];
-    let end = text::put_pair(&mut out, code as i64, (number % 9223372036854775808) as i64);
+    let number = (why.number() % 9223372036854775808) as i64;
+    let end = text::put_line(&mut out, [why.code() as i64, number]);
     let _line = rt.write_all(&out[..end]);
 }

@@ -1,4 +1,5 @@
 -- Document 01's worked rows of looking up in the step room's map at depth 1, and the same with the version 2 sheet.
+use Rattle.std.specs.Prelude.{Err, Ok}
 use mathlib.Core.Path.{◌≡◌, refl}
 use mathlib.Core.Bool.{true, cond, not}
 use mathlib.Core.List.{List, []}
@@ -27,7 +28,6 @@ use Rattle.colour.specs.States.{meets, face_state, otherwise_of, joined_by, stat
 use Rattle.colour.specs.Entries.{face_bounds, entry_with, past_from, first_past}
 use Rattle.pair.specs.Pairs.{pair_refusal}
 use Rattle.lookup.specs.declared.Answer.TheVariants.{Outside, Inside, Undecided}
-use Rattle.lookup.specs.declared.Reply.TheVariants.{Done, Refused}
 use Rattle.lookup.specs.Lookup.{face_holds, answer_of, leaf_holding, point_reply, lookup_of}
 
 -- a point with z 0
@@ -42,7 +42,7 @@ none by = refl
 -- a sheet of either version with a map of that root that opens: a point is outside the root, or its leaf decides
 module _ (version : ℕ) (known : is_version version ≡ true) (map : List ℕ) (root : root_of map ≡ root_of step_map) (opens : fault_of (has_face (step_records_by (comparison_of version))) map ≡ []) where
   step-lookup : (p : Point)
-      → lookup_of (step_sheet_of version) map p ≡ cond (not (holds_point (root_cube (root_of map)) p)) (Refused NotInRoot) (Done (answer_of (step_records_by (comparison_of version)) (leaf_holding map p) p))
+      → lookup_of (step_sheet_of version) map p ≡ cond (not (holds_point (root_cube (root_of map)) p)) (Err NotInRoot) (Ok (answer_of (step_records_by (comparison_of version)) (leaf_holding map p) p))
   unfolding lookup_of pair_refusal point_reply
   step-lookup p = rw (step-check version known, step-records version, opens, root, none (comparison_of version))
 
@@ -61,43 +61,43 @@ unfolding leaf_holding root_of leaf_in leaves_in leaf_at place_of place_by unsig
 by-face-5 = refl
 
 -- S in its own map
-in_step : (p : Point) → lookup_of step_sheet step_map p ≡ cond (not (holds_point (root_cube (root_of step_map)) p)) (Refused NotInRoot) (Done (answer_of step_records (leaf_holding step_map p) p))
+in_step : (p : Point) → lookup_of step_sheet step_map p ≡ cond (not (holds_point (root_cube (root_of step_map)) p)) (Err NotInRoot) (Ok (answer_of step_records (leaf_holding step_map p) p))
 unfolding is_version comparison_of
 in_step = step-lookup 1 refl step_map refl (step-opens AtMost)
 
-pub inside-2-0-0 : lookup_of step_sheet step_map (at 2 0) ≡ Done Inside
+pub inside-2-0-0 : lookup_of step_sheet step_map (at 2 0) ≡ Ok Inside
 unfolding root_of leaf_in leaves_in leaf_at place_of place_by unsigned_at signed32 leaf_holding root_cube holds_point axis_holds answer_of face_holds point_cube along onward entry_with face_bounds bounds_of across difference state_with meets face_state joined_by otherwise_of
 inside-2-0-0 = in_step (at 2 0)
 
-pub outside-3-0-0 : lookup_of step_sheet step_map (at 3 0) ≡ Done Outside
+pub outside-3-0-0 : lookup_of step_sheet step_map (at 3 0) ≡ Ok Outside
 unfolding root_of leaf_in leaves_in leaf_at place_of place_by unsigned_at signed32 leaf_holding root_cube holds_point axis_holds answer_of face_holds point_cube along onward entry_with face_bounds bounds_of across difference state_with meets face_state joined_by otherwise_of
 outside-3-0-0 = in_step (at 3 0)
 
-pub undecided-2-2-0 : lookup_of step_sheet step_map (at 2 2) ≡ Done Undecided
+pub undecided-2-2-0 : lookup_of step_sheet step_map (at 2 2) ≡ Ok Undecided
 unfolding root_of leaf_in leaves_in leaf_at place_of place_by unsigned_at signed32 leaf_holding root_cube holds_point axis_holds answer_of
 undecided-2-2-0 = in_step (at 2 2)
 
 -- on a high plane
-pub not-in-root-4-0-0 : lookup_of step_sheet step_map (at 4 0) ≡ Refused NotInRoot
+pub not-in-root-4-0-0 : lookup_of step_sheet step_map (at 4 0) ≡ Err NotInRoot
 unfolding root_of unsigned_at signed32 root_cube holds_point axis_holds
 not-in-root-4-0-0 = in_step (at 4 0)
 
 -- ---- the version 2 sheet with equal records
 in-strict : (map : List ℕ) → root_of map ≡ root_of step_map → fault_of (has_face strict_records) map ≡ [] → (p : Point)
-    → lookup_of strict_sheet map p ≡ cond (not (holds_point (root_cube (root_of map)) p)) (Refused NotInRoot) (Done (answer_of strict_records (leaf_holding map p) p))
+    → lookup_of strict_sheet map p ≡ cond (not (holds_point (root_cube (root_of map)) p)) (Err NotInRoot) (Ok (answer_of strict_records (leaf_holding map p) p))
 unfolding is_version comparison_of
 in-strict = step-lookup 2 refl
 
 -- in its own map, on one face and on both
-pub strict-2-0-0 : lookup_of strict_sheet strict_map (at 2 0) ≡ Done Outside
+pub strict-2-0-0 : lookup_of strict_sheet strict_map (at 2 0) ≡ Ok Outside
 unfolding root_of leaf_in leaves_in leaf_at place_of place_by unsigned_at signed32 leaf_holding root_cube holds_point axis_holds answer_of
 strict-2-0-0 = in-strict strict_map refl (strict-opens LessThan) (at 2 0)
 
-pub strict-2-2-0 : lookup_of strict_sheet strict_map (at 2 2) ≡ Done Outside
+pub strict-2-2-0 : lookup_of strict_sheet strict_map (at 2 2) ≡ Ok Outside
 unfolding root_of leaf_in leaves_in leaf_at place_of place_by unsigned_at signed32 leaf_holding root_cube holds_point axis_holds answer_of
 strict-2-2-0 = in-strict strict_map refl (strict-opens LessThan) (at 2 2)
 
 -- in S's map, where the leaf names face 5: the answer is that of the sheet which was lent
-pub strict-by-face-5 : lookup_of strict_sheet step_map (at 2 0) ≡ Done Outside
+pub strict-by-face-5 : lookup_of strict_sheet step_map (at 2 0) ≡ Ok Outside
 unfolding root_of leaf_in leaves_in leaf_at place_of place_by unsigned_at signed32 leaf_holding root_cube holds_point axis_holds answer_of face_holds point_cube along onward entry_with face_bounds bounds_of across difference state_with meets face_state joined_by otherwise_of
 strict-by-face-5 = in-strict step_map refl (step-opens LessThan) (at 2 0)

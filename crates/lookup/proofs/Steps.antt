@@ -1,4 +1,5 @@
 -- The reply of looking up at each test: what the proofs of its functions need.
+use Rattle.std.specs.Prelude.{Err, Ok, Result}
 use mathlib.Core.Path.{◌≡◌, sym, ap, ◌∙◌}
 use mathlib.Core.Bool.{Bool, true, false, not}
 use mathlib.Core.List.{List, [], ◌∷◌}
@@ -11,7 +12,6 @@ use Rattle.integers.proofs.First.{bad-first}
 use Rattle.replies.specs.declared.Refusal.{Refusal}
 use Rattle.replies.specs.declared.Over.{Over}
 use Rattle.replies.specs.declared.Refusal.TheVariants.{OverRoot, NotInRoot}
-use Rattle.replies.specs.declared.Reply.TheVariants.{Done as Counts, Refused as Refuses}
 use Rattle.sheet.specs.declared.Record.{Record}
 use Rattle.sheet.specs.Records.{records_of}
 use Rattle.cube.specs.declared.Point.{Point}
@@ -26,42 +26,37 @@ use Rattle.zonemap.specs.declared.Leaf.{Leaf}
 use Rattle.zonemap.specs.Opening.{root_of, leaf_in, offset_at, place_or_first}
 use Rattle.zonemap.proofs.Opens.{root-holds}
 use Rattle.colour.specs.declared.State.{State}
-use Rattle.colour.specs.declared.Judged.{Judged}
-use Rattle.colour.specs.declared.Judged.TheVariants.{Known, Past}
 use Rattle.colour.specs.States.{is_in}
 use Rattle.colour.specs.Entries.{judged_of, first_past}
 use Rattle.colour.proofs.Told.{known_is, known-none, past_first}
 use Rattle.colour.proofs.Smaller.{none-smaller}
 use Rattle.pair.specs.declared.Pair.{Pair}
-use Rattle.pair.specs.declared.Opened.{Opened}
-use Rattle.pair.specs.declared.Opened.TheVariants.{Refused as Shut}
 use Rattle.pair.specs.Pairs.{pair_refusal, pair_of, opened_of}
 use Rattle.pair.proofs.Openings.{shut-clash, pair-within}
 use Rattle.lookup.specs.declared.Answer.{Answer}
-use Rattle.lookup.specs.declared.Reply.{Reply}
-use Rattle.lookup.specs.declared.Reply.TheVariants.{Done, Refused}
-use Rattle.lookup.specs.Lookup.{face_holds, side_of, answer_of, leaf_holding, point_reply, lookup_of, answer_number, numbered}
+use Rattle.lookup.specs.Lookup.{Reply}
+use Rattle.lookup.specs.Lookup.{face_holds, side_of, answer_of, leaf_holding, point_reply, lookup_of}
 use Rattle.lookup.specs.Inner.{Judgeable}
 
 pub handed : (s map : List ℕ) (x y z : ℤ) → SFits w32 x → SFits w32 y → SFits w32 z → (r : Reply) → r ≡ lookup_of s map (passed_point x y z) → r ≡ lookup_of s map (record { x = x; y = y; z = z })
 handed s map x y z fx fy fz r e = rw (same_point x y z fx fy fz) at e
 
 -- ---- replies 1 to 5 and 9: o is what `pair::open` returned
-pub shut : (s map : List ℕ) (p : Point) (o : Opened) → o ≡ opened_of s map p → (why : Refusal) → o ≡ Shut why → Refused why ≡ lookup_of s map p
+pub shut : (s map : List ℕ) (p : Point) (o : Result Pair Refusal) → o ≡ opened_of s map p → (why : Refusal) → o ≡ Err why → Err why ≡ lookup_of s map p
 unfolding opened_of lookup_of
-shut s map p o e why h = sym (bad-first Shut _ (λ w. shut-clash w (pair_of s map p)) (λ a b k. cc) (pair_refusal s map) why (sym e ∙ h) Refused _)
+shut s map p o e why h = sym (bad-first Err _ (λ w. shut-clash w (pair_of s map p)) (λ a b k. cc) (pair_refusal s map) why (sym e ∙ h) Err _)
 
 module _ (s map : List ℕ) (none : pair_refusal s map ≡ []) (p : Point) (pair : Pair) (is : pair ≡ pair_of s map p) (q : Cube) (top : q ≡ root_cube pair.root) where
   root_is : root_cube pair.root ≡ root_cube (root_of map)
   root_is = rw is
 
   -- ---- reply 7: j is what `judge` returned
-  module _ (f : ℕ) (j : Judged) (e : j ≡ judged_of (records_of s) q f) where
-    pub over-limit : (o : Over) → j ≡ Past o → Refused (OverRoot o) ≡ lookup_of s map p
+  module _ (f : ℕ) (j : Result State Over) (e : j ≡ judged_of (records_of s) q f) where
+    pub over-limit : (o : Over) → j ≡ Err o → Err (OverRoot o) ≡ lookup_of s map p
     unfolding lookup_of
     over-limit o h = rw (none, ← root_is, past_first (records_of s) (root_cube pair.root) q top f j e o h)
 
-    module _ (state : State) (h : j ≡ Known state) where
+    module _ (state : State) (h : j ≡ Ok state) where
       pub within-limit : first_past (records_of s) (root_cube pair.root) ≡ []
       within-limit = known-none (records_of s) (root_cube pair.root) q top f j e state h
 
@@ -74,7 +69,7 @@ module _ (s map : List ℕ) (none : pair_refusal s map ≡ []) (p : Point) (pair
     holds : b ≡ holds_point (root_cube (root_of map)) p
     holds = held ∙ ap (λ (k : Cube). holds_point k p) (top ∙ root_is)
 
-    pub not-in-root : b ≡ false → Refused NotInRoot ≡ point_reply (records_of s) map p
+    pub not-in-root : b ≡ false → Err NotInRoot ≡ point_reply (records_of s) map p
     unfolding point_reply
     not-in-root t = rw (sym holds ∙ t)
 
@@ -83,11 +78,11 @@ module _ (s map : List ℕ) (none : pair_refusal s map ≡ []) (p : Point) (pair
       pub judgeable : Judgeable (records_of s) pair.root p
       judgeable = record { within = pair-within s map none p pair is; none = limit; inside = root-holds pair.root p q top b held t }
 
-      pub answered : (l : Leaf) (a : Answer) → l ≡ leaf_in map pair.at → a ≡ answer_of (records_of s) l p → Done a ≡ point_reply (records_of s) map p
+      pub answered : (l : Leaf) (a : Answer) → l ≡ leaf_in map pair.at → a ≡ answer_of (records_of s) l p → Ok a ≡ point_reply (records_of s) map p
       unfolding point_reply leaf_holding place_or_first
       answered l a g h =
           let at-is : pair.at ≡ offset_at map (place_of (root_of map) p) = ap (λ (k : Pair). k.at) is ∙ rw (sym holds ∙ t) in
-          ap Done (h ∙ ap (λ (k : Leaf). answer_of (records_of s) k p) (g ∙ ap (leaf_in map) at-is)) ∙ rw (sym holds ∙ t)
+          ap Ok (h ∙ ap (λ (k : Leaf). answer_of (records_of s) k p) (g ∙ ap (leaf_in map) at-is)) ∙ rw (sym holds ∙ t)
 
 -- ---- the face of a terminal leaf
 module _ (rs : List Record) (root : Root) (p : Point) (h : Judgeable rs root p) where
@@ -97,13 +92,13 @@ module _ (rs : List Record) (root : Root) (p : Point) (h : Judgeable rs root p) 
   pub point-near-there : (q : Cube) → q ≡ point_cube p → Near 0 q
   point-near-there q is = rw is (point-near root p h.within h.inside)
 
-  module _ (q : Cube) (is : q ≡ point_cube p) (f : ℕ) (j : Judged) (e : j ≡ judged_of rs q f) where
-    pub face-known : (state : State) (b : Bool) → j ≡ Known state → b ≡ is_in state → b ≡ face_holds rs f p
+  module _ (q : Cube) (is : q ≡ point_cube p) (f : ℕ) (j : Result State Over) (e : j ≡ judged_of rs q f) where
+    pub face-known : (state : State) (b : Bool) → j ≡ Ok state → b ≡ is_in state → b ≡ face_holds rs f p
     unfolding face_holds
     face-known state b k g = g ∙ ap is_in (known_is rs (point_cube p) q is f j e state k)
 
     -- so the other case cannot occur
-    pub face-past : (o : Over) → j ≡ Past o → (b : Bool) → b ≡ face_holds rs f p
+    pub face-past : (o : Over) → j ≡ Err o → (b : Bool) → b ≡ face_holds rs f p
     face-past o k b = let z : [] ≡ o ∷ [] = sym none-there ∙ past_first rs (point_cube p) q is f j e o k in let y : ◌≡◌ {A = ℕ} 0 1 = cc in absurd (omega arith)
 
 -- ---- the answer of a terminal leaf
@@ -115,11 +110,3 @@ module _ (rs : List Record) (l : Leaf) (p : Point) where
   pub turned : l.class ≡ 3 → (b : Bool) (a : Answer) → b ≡ face_holds rs l.face p → a ≡ side_of (not b) → a ≡ answer_of rs l p
   unfolding answer_of
   turned c b a e h = h ∙ ap (λ (k : Bool). side_of (not k)) e ∙ rw c
-
--- ---- the answer as a number
-module _ (r : Reply) where
-  pub done-numbered : (a : Answer) (n : ℕ) → r ≡ Done a → n ≡ answer_number a → Counts n ≡ numbered r
-  done-numbered a n h e = rw h (ap Counts e)
-
-  pub refused-numbered : (why : Refusal) → r ≡ Refused why → Refuses why ≡ numbered r
-  refused-numbered why h = rw h

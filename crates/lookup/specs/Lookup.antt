@@ -1,9 +1,9 @@
 -- Looking a position up: the reply, and the answer of a leaf.
-use Rattle.std.specs.Prelude.{ℕ, Bool, cond, not, List, eqb, get_or}
+use Rattle.std.specs.Prelude.{ℕ, Bool, cond, not, List, eqb, get_or, Err, Ok, Result}
 use Rattle.integers.specs.First.{on_first}
+use Rattle.replies.specs.declared.Refusal.{Refusal}
 use Rattle.replies.specs.declared.Refusal.TheVariants.{OverRoot, NotInRoot}
-use Rattle.replies.specs.declared.Reply.{Reply as Counted}
-use Rattle.replies.specs.declared.Reply.TheVariants.{Done as Counts, Refused as Refuses}
+use Rattle.replies.specs.Table.{Reply as Counted}
 use Rattle.sheet.specs.declared.Record.{Record}
 use Rattle.sheet.specs.Records.{records_of}
 use Rattle.cube.specs.declared.Point.{Point}
@@ -16,8 +16,6 @@ use Rattle.colour.specs.Entries.{blank, entries, first_past}
 use Rattle.pair.specs.Pairs.{pair_refusal}
 use Rattle.lookup.specs.declared.Answer.{Answer}
 use Rattle.lookup.specs.declared.Answer.TheVariants.{Outside, Inside, Undecided}
-use Rattle.lookup.specs.declared.Reply.{Reply}
-use Rattle.lookup.specs.declared.Reply.TheVariants.{Done, Refused}
 
 -- A face at a point. A point is a cube of side 0, over which bounds are exact: the face's operand there meets its comparison with 0 exactly if its state is In.
 unfoldable pub face_holds : List Record → ℕ → Point → Bool
@@ -39,15 +37,19 @@ answer_of rs l p =
 unfoldable pub leaf_holding : List ℕ → Point → Leaf
 leaf_holding map p = leaf_in map (offset_at map (place_of (root_of map) p))
 
+-- what looking up returns: where the position lies, or why it refuses
+abbrev pub Reply : Type 0
+Reply = Result Answer Refusal
+
 -- from reply 10 on
 unfoldable pub point_reply : List Record → List ℕ → Point → Reply
-point_reply rs map p = cond (not (holds_point (root_cube (root_of map)) p)) (Refused NotInRoot) (Done (answer_of rs (leaf_holding map p) p))
+point_reply rs map p = cond (not (holds_point (root_cube (root_of map)) p)) (Err NotInRoot) (Ok (answer_of rs (leaf_holding map p) p))
 
 -- looking up by the table of replies, row by row: 1 to 5 and 9, then 7, then 10
 unfoldable pub lookup_of : List ℕ → List ℕ → Point → Reply
 lookup_of s map p =
-    on_first (pair_refusal s map) Refused
-    (on_first (first_past (records_of s) (root_cube (root_of map))) (λ o. Refused (OverRoot o))
+    on_first (pair_refusal s map) Err
+    (on_first (first_past (records_of s) (root_cube (root_of map))) (λ o. Err (OverRoot o))
     (point_reply (records_of s) map p))
 
 -- lookup: 0 outside, 1 inside, 2 undecided
@@ -58,5 +60,5 @@ answer_number Undecided = 2
 
 -- the reply with its answer as a number
 abbrev pub numbered : Reply → Counted
-numbered (Done answer) = Counts (answer_number answer)
-numbered (Refused why) = Refuses why
+numbered (Ok answer) = Ok (answer_number answer)
+numbered (Err why) = Err why

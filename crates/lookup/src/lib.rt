@@ -6,7 +6,7 @@ mod looking;
 mod numbers;
 
 pub use looking::lookup;
-use replies::Refusal;
+pub use numbers::numbered;
 
 // Where a position lies.
 #[derive(Clone, Copy)]
@@ -14,11 +14,4 @@ pub enum Answer {
     Outside,
     Inside,
     Undecided,
-}
-
-// Where the position lies, or why the call refuses.
-#[derive(Clone, Copy)]
-pub enum Reply {
-    Done(Answer),
-    Refused(Refusal),
 }

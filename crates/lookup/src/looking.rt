@@ -9,30 +9,23 @@ ghost use Rattle.pair.specs.Pairs.{pair_refusal, pair_of};
 ghost use Rattle.lookup.specs.Lookup.{face_holds, side_of, answer_of, point_reply, lookup_of};
 ghost use Rattle.lookup.specs.Inner.{Judgeable};
 
-use crate::{Answer, Reply};
-use colour::Judged;
+use crate::Answer;
 use cube::{Point, Root};
-use pair::{Opened, Pair};
+use pair::Pair;
 use replies::Refusal;
 use zonemap::Leaf;
 
 // Looks a position up in a zone map.
-pub fn lookup(sheet: &[u8], map: &[u8], x: i32, y: i32, z: i32) -> Reply
+pub fn lookup(sheet: &[u8], map: &[u8], x: i32, y: i32, z: i32) -> Result<Answer, Refusal>
     ensures { result ≡ lookup_of sheet.now map.now (record { x = x; y = y; z = z }) }
 {
     let p = Point { x, y, z };
-    match pair::open(sheet, map, p) {
-        Opened::Good(pair) => {
-            return over_root(sheet, map, pair, p);
-        }
-        Opened::Refused(why) => {
-            return Reply::Refused(why);
-        }
-    }
+    let pair = pair::open(sheet, map, p)?;
+    over_root(sheet, map, pair, p)
 }
 
 // Reply 7, then the rest.
-fn over_root(sheet: &[u8], map: &[u8], pair: Pair, p: Point) -> Reply
+fn over_root(sheet: &[u8], map: &[u8], pair: Pair, p: Point) -> Result<Answer, Refusal>
     requires fact_1 { pair_refusal sheet.now map.now ≡ [] }
     requires fact_2 { pair ≡ pair_of sheet.now map.now p }
     ensures { result ≡ lookup_of sheet.now map.now p }
@@ -40,18 +33,18 @@ fn over_root(sheet: &[u8], map: &[u8], pair: Pair, p: Point) -> Reply
     let mut offsets = [0u16; 256];
     records::list_offsets(sheet, pair.count, &mut offsets);
     // Only the limit matters here, so any record will do.
-    match colour::judge(sheet, &offsets, pair.count, pair.root.cube(), 0) {
-        Judged::Known(_) => {
-            return at_point(sheet, &offsets, map, pair, p);
-        }
-        Judged::Past(over) => {
-            return Reply::Refused(Refusal::OverRoot(over));
-        }
-    }
+    colour::judge(sheet, &offsets, pair.count, pair.root.cube(), 0).map_err(Refusal::OverRoot)?;
+    at_point(sheet, &offsets, map, pair, p)
 }
 
 // Reply 10, or the answer of the leaf that holds the point.
-fn at_point(sheet: &[u8], offsets: &[u16], map: &[u8], pair: Pair, p: Point) -> Reply
+fn at_point(
+    sheet: &[u8],
+    offsets: &[u16],
+    map: &[u8],
+    pair: Pair,
+    p: Point,
+) -> Result<Answer, Refusal>
     requires fact_1 { Offsets offsets.now sheet.now }
     requires fact_2 { pair_refusal sheet.now map.now ≡ [] }
     requires fact_3 { pair ≡ pair_of sheet.now map.now p }
@@ -60,9 +53,9 @@ fn at_point(sheet: &[u8], offsets: &[u16], map: &[u8], pair: Pair, p: Point) -> 
 {
     if pair.root.cube().holds(p) {
         let leaf = zonemap::leaf_at(map, pair.at);
-        return Reply::Done(answer(sheet, offsets, pair.count, pair.root, leaf, p));
+        return Ok(answer(sheet, offsets, pair.count, pair.root, leaf, p));
     }
-    Reply::Refused(Refusal::NotInRoot)
+    Err(Refusal::NotInRoot)
 }
 
 // The answer of a leaf at a point that it holds.
@@ -99,7 +92,7 @@ fn face_holds(sheet: &[u8], offsets: &[u16], count: usize, root: Root, f: u8, p:
     ensures { result ≡ face_holds (records_of sheet.now) f p }
 {
     match colour::judge(sheet, offsets, count, p.cube(), f) {
-        Judged::Known(state) => state.is_in(),
-        Judged::Past(_) => false,
+        Ok(state) => state.is_in(),
+        Err(_) => false,
     }
 }

@@ -3,7 +3,8 @@
 ghost use Rattle.std.specs.Prelude.{◌≡◌};
 ghost use Rattle.lookup.specs.Lookup.{answer_number, numbered};
 
-use crate::{Answer, Reply};
+use crate::Answer;
+use replies::Refusal;
 
 impl Answer {
     pub fn number(self) -> usize
@@ -17,13 +18,9 @@ impl Answer {
     }
 }
 
-impl Reply {
-    pub fn numbered(self) -> replies::Reply
-        ensures { result ≡ numbered self }
-    {
-        match self {
-            Reply::Done(answer) => replies::Reply::Done(answer.number()),
-            Reply::Refused(why) => replies::Reply::Refused(why),
-        }
-    }
+// A reply with its answer as a number.
+pub fn numbered(reply: Result<Answer, Refusal>) -> Result<usize, Refusal>
+    ensures { result ≡ numbered reply }
+{
+    reply.map(Answer::number)
 }

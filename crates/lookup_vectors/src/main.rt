@@ -3,15 +3,9 @@
 #![tactic(auto)]
 
 fn main(rt: HostRuntime) {
-    let mut input = [0u8; 131072];
-    let n = buffers::read_full(&mut rt.stdin(), &mut input);
-    let mut vector = [0u8; 640];
-    let mut at = 0;
-    while at < n {
-        let line = vectors::read_line(&rt, &input[..n], at, &mut vector);
-        look_up_from(&rt, &vector[..line.size]);
-        at = line.next;
-    }
+    vectors::with_input::<131072, _, _>(&mut rt.stdin(), |input| {
+        vectors::answer_all(&rt, input, |vector| look_up_from(&rt, vector));
+    });
 }
 
 // A vector is the bytes of X, Y and Z, the sheet's length (two bytes, since the length in the sheet may be damaged), the sheet and the map. One that is too short leaves its line without an answer.

@@ -1,17 +1,17 @@
 -- What opening a map with its sheet returns at each test, and what follows from its result.
+use Rattle.std.specs.Prelude.{Err, Ok, Result}
 use mathlib.Core.Path.{◌≡◌, refl, sym, ap, ◌∙◌}
 use mathlib.Core.Bool.{true}
 use mathlib.Core.List.{List, [], ◌∷◌}
 use Prim.Native.Nat.{ℕ, ◌+◌, ◌≤◌}
 use native.Mathlib.Omega.{arith}
+use Rattle.std.proofs.lemmas.Bool.Decides.{nat_tests}
 use lib.Dec.{eqb}
 use lib.ListN.{length, get_or}
 use Rattle.integers.proofs.First.{none_first}
-use Rattle.integers.proofs.Order.{by-test}
 use Rattle.replies.specs.declared.Refusal.{Refusal}
 use Rattle.replies.specs.declared.Refusal.TheVariants.{Map}
-use Rattle.replies.specs.declared.Reply.{Reply}
-use Rattle.replies.specs.declared.Reply.TheVariants.{Done, Refused}
+use Rattle.replies.specs.Table.{Reply}
 use Rattle.replies.specs.Table.{refusal_of}
 use Rattle.sheet.specs.declared.Record.{Record}
 use Rattle.sheet.specs.declared.Record.TheVariants.{X}
@@ -19,67 +19,63 @@ use Rattle.sheet.specs.Records.{records_of}
 use Rattle.sheet.specs.Check.{check_of}
 use Rattle.records.specs.Faces.{is_face, has_face, mark_of, Marks}
 use Rattle.cube.specs.declared.Point.{Point}
-use Rattle.cube.specs.declared.Root.{Root}
 use Rattle.cube.specs.declared.Cube.{Cube}
 use Rattle.cube.specs.Limits.{in_limits, Near}
 use Rattle.cube.specs.Cubes.{root_cube}
 use Rattle.cube.proofs.Cubes.{root-small, near-once}
 use Rattle.zonemap.specs.declared.Found.{Found}
-use Rattle.zonemap.specs.declared.Found.TheVariants.{At, Bad}
 use Rattle.zonemap.specs.Opening.{root_of, fault_of, place_or_first, found_of}
 use Rattle.zonemap.specs.Inner.{marked}
 use Rattle.zonemap.proofs.Finding.{opens-parts, opens-sizes, found_inside}
-use Rattle.zonemap.proofs.Opens.{found-good, found-bad, first_below}
+use Rattle.zonemap.proofs.Opens.{found-good, found-bad, first_below, clash, good-told}
 use Rattle.pair.specs.declared.Pair.{Pair}
-use Rattle.pair.specs.declared.Opened.{Opened}
-use Rattle.pair.specs.declared.Opened.TheVariants.{Good, Refused as Shut}
 use Rattle.pair.specs.Pairs.{pair_refusal, pair_of, opened_of}
 
 -- ---- replies 1 to 5: r is what `check` returned
 module _ (s : List ℕ) (r : Reply) (e : r ≡ check_of s) where
-  pub sheet-refused : (why : Refusal) → r ≡ Refused why → (map : List ℕ) (p : Point) → Shut why ≡ opened_of s map p
+  pub sheet-refused : (why : Refusal) → r ≡ Err why → (map : List ℕ) (p : Point) → Err why ≡ opened_of s map p
   unfolding opened_of pair_refusal
   sheet-refused why h map p = rw (sym e ∙ h)
 
-  pub sheet-good : (n : ℕ) → r ≡ Done n → refusal_of (check_of s) ≡ []
+  pub sheet-good : (n : ℕ) → r ≡ Ok n → refusal_of (check_of s) ≡ []
   sheet-good n h = rw (sym e ∙ h)
 
 -- ---- reply 9: the marks are those of the sheet's faces, and o is what `find` returned
 mark-is : (r : Record) → eqb (mark_of r) 1 ≡ is_face r
-mark-is r = by-test (is_face r) (λ t. rw t) (λ t. rw t)
+mark-is r = grind (arith, nat_tests)
 
 named : (rs : List Record) (marks : List ℕ) → Marks marks rs → marked marks ≡ has_face rs
 unfolding has_face
 named rs marks m = λ i f. (ap (λ (n : ℕ). eqb n 1) (m.each f) ∙ mark-is (get_or rs f X)) i
 
-module _ (s : List ℕ) (good : refusal_of (check_of s) ≡ []) (marks : List ℕ) (m : Marks marks (records_of s)) (map : List ℕ) (p : Point) (o : Found) (e : o ≡ found_of (marked marks) map p) where
+module _ (s : List ℕ) (good : refusal_of (check_of s) ≡ []) (marks : List ℕ) (m : Marks marks (records_of s)) (map : List ℕ) (p : Point) (o : Result Found ℕ) (e : o ≡ found_of (marked marks) map p) where
   found : o ≡ found_of (has_face (records_of s)) map p
   found = rw (named (records_of s) marks m) at e
 
-  pub map-opened : (count : ℕ) → count ≡ length (records_of s) → (root : Root) (at : ℕ) → o ≡ At root at → Good (record { count = count; root = root; at = at }) ≡ opened_of s map p
+  pub map-opened : (count : ℕ) → count ≡ length (records_of s) → (f : Found) → o ≡ Ok f → Ok (record { count = count; root = f.root; at = f.at }) ≡ opened_of s map p
   unfolding opened_of pair_refusal
-  map-opened count is root at h =
-      let t = found-good (has_face (records_of s)) map p o found root at h in
-      rw (good, t.0, is, t.2, t.1)
+  map-opened count is f h =
+      let t = found-good (has_face (records_of s)) map p o found f h in
+      rw (good, t.0, is, t.1)
 
-  pub map-refused : (at : ℕ) → o ≡ Bad at → Shut (Map at) ≡ opened_of s map p
+  pub map-refused : (at : ℕ) → o ≡ Err at → Err (Map at) ≡ opened_of s map p
   unfolding opened_of pair_refusal
   map-refused at h = rw (good, found-bad (has_face (records_of s)) map p o found at h (λ n. Map n ∷ []) [])
 
 -- ---- what follows from its result
-pub shut-clash : (why : Refusal) (pair : Pair) → Shut why ≡ Good pair → ⊥
-shut-clash why pair e = let z : ◌≡◌ {A = ℕ} 0 1 = cc in omega arith
+pub shut-clash : (why : Refusal) (pair : Pair) → ◌≡◌ {A = Result Pair Refusal} (Err why) (Ok pair) → ⊥
+shut-clash why pair e = clash why pair e
 
-module _ (s map : List ℕ) (p : Point) (o : Opened) (e : o ≡ opened_of s map p) (pair : Pair) (h : o ≡ Good pair) where
-  told : (pair_refusal s map ≡ []) × (Good (pair_of s map p) ≡ Good pair)
+module _ (s map : List ℕ) (p : Point) (o : Result Pair Refusal) (e : o ≡ opened_of s map p) (pair : Pair) (h : o ≡ Ok pair) where
+  told : (pair_refusal s map ≡ []) × (pair ≡ pair_of s map p)
   unfolding opened_of
-  told = none_first (λ (q : Opened). q ≡ Good pair) Shut _ (pair_refusal s map) (λ why. shut-clash why pair) (sym e ∙ h)
+  told = good-told (pair_refusal s map) _ o e pair h
 
   pub not-shut : pair_refusal s map ≡ []
   not-shut = told.0
 
   pub pair_is : pair ≡ pair_of s map p
-  pair_is = let t = told.1 in cc
+  pair_is = told.1
 
 module _ (s map : List ℕ) (none : pair_refusal s map ≡ []) where
   parts : (refusal_of (check_of s) ≡ []) × (fault_of (has_face (records_of s)) map ≡ [])
@@ -89,7 +85,7 @@ module _ (s map : List ℕ) (none : pair_refusal s map ≡ []) where
       (t.0, (none_first (λ (rs : List Refusal). rs ≡ []) (λ at. Map at ∷ []) [] (fault_of (has_face (records_of s)) map) (λ at. one (Map at)) t.1).0)
     where
       one : (why : Refusal) → ◌≡◌ {A = List Refusal} (why ∷ []) [] → ⊥
-      one why e = let z : ◌≡◌ {A = ℕ} 0 1 = cc in omega arith
+      one why e = cc
 
   pub pair-good : refusal_of (check_of s) ≡ []
   pair-good = parts.0

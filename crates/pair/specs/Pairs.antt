@@ -1,5 +1,5 @@
 -- A zone sheet with a zone map: replies 1 to 5 and 9, and what is known of the two if no row refuses them.
-use Rattle.std.specs.Prelude.{List, [], ◌∷◌, ℕ, length}
+use Rattle.std.specs.Prelude.{List, [], ◌∷◌, ℕ, length, Err, Ok, Result}
 use Rattle.integers.specs.First.{on_first}
 use Rattle.replies.specs.declared.Refusal.{Refusal}
 use Rattle.replies.specs.declared.Refusal.TheVariants.{Map}
@@ -10,8 +10,6 @@ use Rattle.records.specs.Faces.{has_face}
 use Rattle.cube.specs.declared.Point.{Point}
 use Rattle.zonemap.specs.Opening.{root_of, fault_of, offset_at, place_or_first}
 use Rattle.pair.specs.declared.Pair.{Pair}
-use Rattle.pair.specs.declared.Opened.{Opened}
-use Rattle.pair.specs.declared.Opened.TheVariants.{Good, Refused}
 
 -- the first refusal, if there is one: rows 1 to 5 for the sheet, then row 9: the map doesn't open, or a terminal leaf names a record that isn't a face of
 -- the sheet
@@ -25,5 +23,5 @@ pair_refusal s map =
 abbrev pub pair_of : List ℕ → List ℕ → Point → Pair
 pair_of s map p = record { count = length (records_of s); root = root_of map; at = offset_at map (place_or_first (root_of map) p) }
 
-unfoldable pub opened_of : List ℕ → List ℕ → Point → Opened
-opened_of s map p = on_first (pair_refusal s map) Refused (Good (pair_of s map p))
+unfoldable pub opened_of : List ℕ → List ℕ → Point → Result Pair Refusal
+opened_of s map p = on_first (pair_refusal s map) Err (Ok (pair_of s map p))

@@ -6,7 +6,6 @@ mod opening;
 
 use cube::Root;
 pub use opening::open;
-use replies::Refusal;
 
 // What is known of a good sheet and a map that opens with it: the number of records, the root, and the offset of the leaf that holds a point.
 #[derive(Clone, Copy)]
@@ -14,11 +13,4 @@ pub struct Pair {
     pub count: usize,
     pub root: Root,
     pub at: usize,
-}
-
-// A pair, or the first refusal of the sheet and the map.
-#[derive(Clone, Copy)]
-pub enum Opened {
-    Good(Pair),
-    Refused(Refusal),
 }

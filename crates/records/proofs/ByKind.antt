@@ -1,4 +1,5 @@
 -- Where a record stands, its kind determines its count byte and which record it is.
+use Rattle.std.specs.Prelude.{Some}
 use mathlib.Core.Path.{◌≡◌, refl, ap, sym, ◌∙◌}
 use mathlib.Core.Bool.{true, false, cond, ◌&&◌, and-eq-true_iff}
 use mathlib.Core.List.{List}
@@ -17,7 +18,6 @@ use Rattle.bigendian.specs.Numbers.{signed_at}
 use Rattle.sheet.specs.declared.Comparison.{Comparison}
 use Rattle.sheet.specs.declared.Record.{Record}
 use Rattle.sheet.specs.declared.Record.TheVariants.{Constant, X, Y, Z, Sum, Difference, Product, Square, Face, Both, Either, Complement}
-use Rattle.sheet.specs.declared.Row.TheVariants.{Known}
 use Rattle.sheet.specs.Table.{comparison_of, row_of, row_at, is_known, Stands}
 
 -- the count byte of a kind, and the record that the kind makes with the bytes after it
@@ -33,10 +33,10 @@ kind_of by kind a b c =
 
 module _ (by : Comparison) (size kind a b : ℕ) (c : ℤ) where
   abbrev Told : Type 0
-  Told = (0 < size) × (size ≤ 5) × (size ≡ count_of kind) × (row_of by size kind a b c ≡ Known (kind_of by kind a b c))
+  Told = (0 < size) × (size ≤ 5) × (size ≡ count_of kind) × (row_of by size kind a b c ≡ Some (kind_of by kind a b c))
 
   -- a matching row determines all of it
-  hit : (k m : ℕ) → (0 < k) × (k ≤ 5) × (k ≡ count_of m) × (row_of by k m a b c ≡ Known (kind_of by m a b c)) → (eqb size k && eqb kind m) ≡ true → Told
+  hit : (k m : ℕ) → (0 < k) × (k ≤ 5) × (k ≡ count_of m) × (row_of by k m a b c ≡ Some (kind_of by m a b c)) → (eqb size k && eqb kind m) ≡ true → Told
   hit k m h t =
       let e = (and-eq-true_iff (eqb size k) (eqb kind m)).0 t in
       rw (eqb-true size k e.0, eqb-true kind m e.1) h
@@ -67,7 +67,7 @@ module _ (s : List ℕ) (at : ℕ) (h : Stands s at) where
   abbrev made : ℕ → Record
   made k = kind_of (comparison_of (get_or s 2 0)) k (get_or s (at + 2) 0) (get_or s (at + 3) 0) (signed_at s (at + 2))
 
-  tells : (0 < get_or s at 0) × (get_or s at 0 ≤ 5) × (get_or s at 0 ≡ count_of kind) × (row_at s at ≡ Known (made kind))
+  tells : (0 < get_or s at 0) × (get_or s at 0 ≤ 5) × (get_or s at 0 ≡ count_of kind) × (row_at s at ≡ Some (made kind))
   unfolding row_at
   tells = told (comparison_of (get_or s 2 0)) (get_or s at 0) kind (get_or s (at + 2) 0) (get_or s (at + 3) 0) (signed_at s (at + 2)) h.known
 
@@ -82,8 +82,8 @@ module _ (s : List ℕ) (at : ℕ) (h : Stands s at) where
   pub record-room : (k : ℕ) → kind ≡ k → at + count_of k < length s
   record-room k e = omega (arith, h.inside, tells.2 ∙ ap count_of e)
 
-  pub record_is : (k : ℕ) → kind ≡ k → row_at s at ≡ Known (made k)
-  record_is k e = tells.3 ∙ ap (λ (m : ℕ). Known (made m)) e
+  pub record_is : (k : ℕ) → kind ≡ k → row_at s at ≡ Some (made k)
+  record_is k e = tells.3 ∙ ap (λ (m : ℕ). Some (made m)) e
 
   -- the same as the arms of a match require them: k is the kind of the arm
   module _ (k : ℕ) (e : kind ≡ k) where
@@ -93,27 +93,27 @@ module _ (s : List ℕ) (at : ℕ) (h : Stands s at) where
     pub second-room : leb 3 (count_of k) ≡ true → at + 3 < length s
     second-room t = omega (arith, record-room k e, leb-true 3 (count_of k) t)
 
-    pub record-as : (r : Record) → made k ≡ r → row_at s at ≡ Known r
-    record-as r h = record_is k e ∙ ap Known h
+    pub record-as : (r : Record) → made k ≡ r → row_at s at ≡ Some r
+    record-as r h = record_is k e ∙ ap Some h
 
   -- the version comes before a face's last byte; `by` is what was read of it
   pub version-room : kind ≡ 16 → 2 < length s
   version-room e = omega (arith, record-room 16 e)
 
-  pub record-face : (by : Comparison) → kind ≡ 16 → by ≡ comparison_of (get_or s 2 0) → row_at s at ≡ Known (Face by (get_or s (at + 2) 0))
-  record-face by e h = record_is 16 e ∙ ap (λ (b : Comparison). Known (Face b (get_or s (at + 2) 0))) (sym h)
+  pub record-face : (by : Comparison) → kind ≡ 16 → by ≡ comparison_of (get_or s 2 0) → row_at s at ≡ Some (Face by (get_or s (at + 2) 0))
+  record-face by e h = record_is 16 e ∙ ap (λ (b : Comparison). Some (Face b (get_or s (at + 2) 0))) (sym h)
 
-  pub record-constant : (c : ℤ) → kind ≡ 1 → c ≡ signed_at s (at + 2) → mag c < 2 ^ 31 → row_at s at ≡ Known (Constant (to_z w32 (of_z w32 c)))
-  record-constant c e h f = record_is 1 e ∙ ap (λ (z : ℤ). Known (Constant z)) (sym (to_z-of_z {w = w32} (record { sfits = f }) ∙ h))
+  pub record-constant : (c : ℤ) → kind ≡ 1 → c ≡ signed_at s (at + 2) → mag c < 2 ^ 31 → row_at s at ≡ Some (Constant (to_z w32 (of_z w32 c)))
+  record-constant c e h f = record_is 1 e ∙ ap (λ (z : ℤ). Some (Constant z)) (sym (to_z-of_z {w = w32} (record { sfits = f }) ∙ h))
 
   -- a record of none of the other kinds is a complement
   module _ (n1 : kind ≡ 1 → ⊥) (n2 : kind ≡ 2 → ⊥) (n3 : kind ≡ 3 → ⊥) (n4 : kind ≡ 4 → ⊥) (n5 : kind ≡ 5 → ⊥) (n6 : kind ≡ 6 → ⊥) (n7 : kind ≡ 7 → ⊥)
       (n8 : kind ≡ 8 → ⊥) (n16 : kind ≡ 16 → ⊥) (n17 : kind ≡ 17 → ⊥) (n18 : kind ≡ 18 → ⊥) where
-    last : (0 < get_or s at 0) × (get_or s at 0 ≤ 5) × (get_or s at 0 ≡ 2) × (row_at s at ≡ Known (Complement (get_or s (at + 2) 0)))
+    last : (0 < get_or s at 0) × (get_or s at 0 ≤ 5) × (get_or s at 0 ≡ 2) × (row_at s at ≡ Some (Complement (get_or s (at + 2) 0)))
     last = rw (ne_eqb kind 1 n1, ne_eqb kind 2 n2, ne_eqb kind 3 n3, ne_eqb kind 4 n4, ne_eqb kind 5 n5, ne_eqb kind 6 n6, ne_eqb kind 7 n7, ne_eqb kind 8 n8, ne_eqb kind 16 n16, ne_eqb kind 17 n17, ne_eqb kind 18 n18) at tells
 
     pub complement-room : at + 2 < length s
     complement-room = omega (arith, h.inside, last.2)
 
-    pub complement-is : row_at s at ≡ Known (Complement (get_or s (at + 2) 0))
+    pub complement-is : row_at s at ≡ Some (Complement (get_or s (at + 2) 0))
     complement-is = last.3

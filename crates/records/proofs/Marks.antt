@@ -1,4 +1,5 @@
 -- The loop that marks the faces of a sheet: its invariant is that the first n records are done, and the list holds the mark of each.
+use Rattle.std.specs.Prelude.{Some}
 use mathlib.Core.Path.{◌≡◌, refl, ◌∙◌}
 use mathlib.Core.List.{List}
 use Prim.Native.Nat.{ℕ, ◌+◌, ◌≤◌, ◌<◌}
@@ -9,7 +10,6 @@ use mir.Syntax.{w64}
 use mir.Val.{Fits}
 use Rattle.sheet.specs.declared.Record.{Record}
 use Rattle.sheet.specs.declared.Record.TheVariants.{X}
-use Rattle.sheet.specs.declared.Row.TheVariants.{Known}
 use Rattle.sheet.specs.Table.{row_at, Stands}
 use Rattle.sheet.specs.Records.{records_of}
 use Rattle.sheet.proofs.Walk.{Before, before-first, before-next, stands, stands-taken}
@@ -48,7 +48,7 @@ module _ (s : List ℕ) (count : ℕ) (marks : List ℕ) (at n : ℕ) (w : Marki
     marking-fits = record { fits = omega (arith, marking-number) }
 
     -- one more record: r is what `record_at` returned
-    pub marking-next : (r : Record) → row_at s at ≡ Known r → (m : ℕ) → m ≡ mark_of r → Marking s count (set marks n m) (at + 1 + get_or s at 0) (n + 1)
+    pub marking-next : (r : Record) → row_at s at ≡ Some r → (m : ℕ) → m ≡ mark_of r → Marking s count (set marks n m) (at + 1 + get_or s at 0) (n + 1)
     marking-next r row m e =
         record {
           all = w.all;

@@ -1,4 +1,5 @@
 -- A loop over the records of a sheet by their offsets: n of them are done.
+use Rattle.std.specs.Prelude.{Some}
 use mathlib.Core.Path.{◌≡◌}
 use mathlib.Core.List.{List}
 use Prim.Native.Nat.{ℕ, ◌+◌, ◌≤◌, ◌<◌}
@@ -8,7 +9,6 @@ use mir.Syntax.{w64}
 use mir.Val.{Fits}
 use Rattle.sheet.specs.declared.Record.{Record}
 use Rattle.sheet.specs.declared.Record.TheVariants.{X}
-use Rattle.sheet.specs.declared.Row.TheVariants.{Known}
 use Rattle.sheet.specs.Table.{row_at, Stands}
 use Rattle.sheet.specs.Records.{records_of}
 use Rattle.sheet.proofs.Walk.{Before, stands-record}
@@ -53,5 +53,5 @@ module _ (s offsets : List ℕ) (count : ℕ) where
       walking-next = record { listed = w.listed; all = w.all; among = omega (arith, more) }
 
       -- r is what `record_at` returned: it is record n
-      pub walking-record : (r : Record) → row_at s (get_or offsets n 0) ≡ Known r → get_or (records_of s) n X ≡ r
+      pub walking-record : (r : Record) → row_at s (get_or offsets n 0) ≡ Some r → get_or (records_of s) n X ≡ r
       walking-record r row = stands-record s (get_or offsets n 0) n walking-before more r row X

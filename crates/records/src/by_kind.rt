@@ -1,15 +1,14 @@
 // The record at an offset.
 
-ghost use Rattle.std.specs.Prelude.{◌≡◌};
+ghost use Rattle.std.specs.Prelude.{◌≡◌, Some};
 ghost use Rattle.sheet.specs.Table.{row_at, Stands};
-ghost use Rattle.sheet.specs.declared.Row.TheVariants.{Known};
 
 use sheet::{Comparison, Record};
 
 // The record at an offset where one is known to stand.
 pub fn record_at(s: &[u8], at: usize) -> Record
     requires { Stands s.now at }
-    ensures { row_at s.now at ≡ Known result }
+    ensures { row_at s.now at ≡ Some result }
 {
     match s[at + 1] {
         1 => Record::Constant(bigendian::i32_at(s, at + 2)),

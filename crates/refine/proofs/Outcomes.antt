@@ -1,4 +1,5 @@
 -- The outcome of refining at each test, and what the functions on the way require.
+use Rattle.std.specs.Prelude.{Err, Ok, Result}
 use mathlib.Core.Path.{◌≡◌, refl, sym, ap, ◌∙◌}
 use mathlib.Core.Bool.{Bool, true, false, not}
 use mathlib.Core.List.{List, []}
@@ -10,9 +11,6 @@ use mir.Val.{Fits}
 use Rattle.integers.proofs.First.{bad-first}
 use Rattle.replies.specs.declared.Refusal.{Refusal}
 use Rattle.replies.specs.declared.Refusal.TheVariants.{Limits}
-use Rattle.replies.specs.declared.Reply.{Reply}
-use Rattle.replies.specs.declared.Reply.TheVariants.{Done, Refused}
-use Rattle.replies.specs.Table.{refusal_of}
 use Rattle.sheet.specs.Records.{records_of}
 use Rattle.sheet.specs.Check.{check_of}
 use Rattle.sheet.proofs.Good.{records-few, good-count, good-some}
@@ -26,29 +24,23 @@ use Rattle.replacing.specs.Replace.{refined_map}
 use Rattle.replacing.specs.Walk.{Deeper}
 use Rattle.building.specs.Build.{Outcome, outcome, over_root_with}
 use Rattle.pair.specs.declared.Pair.{Pair}
-use Rattle.pair.specs.declared.Opened.{Opened}
-use Rattle.pair.specs.declared.Opened.TheVariants.{Good, Refused as Shut}
 use Rattle.pair.specs.Pairs.{pair_refusal, pair_of, opened_of}
 use Rattle.pair.proofs.Openings.{shut-clash, pair_is, pair-good, pair-opens}
 use Rattle.refine.specs.Refine.{refine_of}
+use Rattle.replies.proofs.Told.{not-refused}
 
 -- ---- replies 1 to 5 and 9: o is what `open` returned
-pub shut : (s map : List ℕ) (p : Point) (o : Opened) → o ≡ opened_of s map p → (why : Refusal) → o ≡ Shut why → (d : ℕ) (out : List ℕ) → outcome (Refused why) out ≡ refine_of s map d out
+pub shut : (s map : List ℕ) (p : Point) (o : Result Pair Refusal) → o ≡ opened_of s map p → (why : Refusal) → o ≡ Err why → (d : ℕ) (out : List ℕ) → outcome (Err why) out ≡ refine_of s map d out
 unfolding refine_of opened_of
 shut s map p o e why h d out =
-    sym (bad-first Shut _ (λ w. shut-clash w (pair_of s map p)) (λ w v q. cc) (pair_refusal s map) why (sym e ∙ h) (λ w. outcome (Refused w) out) _)
+    sym (bad-first Err _ (λ w. shut-clash w (pair_of s map p)) (λ w v q. cc) (pair_refusal s map) why (sym e ∙ h) (λ w. outcome (Err w) out) _)
 
-pub some_pair : (s map : List ℕ) (p : Point) (o : Opened) → o ≡ opened_of s map p → (pair : Pair) → o ≡ Good pair → (p : Point) × (pair ≡ pair_of s map p)
+pub some_pair : (s map : List ℕ) (p : Point) (o : Result Pair Refusal) → o ≡ opened_of s map p → (pair : Pair) → o ≡ Ok pair → (p : Point) × (pair ≡ pair_of s map p)
 some_pair s map p o e pair h = (p, pair_is s map p o e pair h)
 
--- a reply that refuses nothing is done
-is-done : (r : Reply) → refusal_of r ≡ [] → (n : ℕ) × (r ≡ Done n)
-is-done (Done n) h = (n, refl)
-is-done (Refused why) h = let z : ◌≡◌ {A = ℕ} 0 1 = cc in absurd (omega arith)
-
 module _ (s map : List ℕ) (none : pair_refusal s map ≡ []) (pair : Pair) (is : (p : Point) × (pair ≡ pair_of s map p)) where
-  done : (n : ℕ) × (check_of s ≡ Done n)
-  done = is-done (check_of s) (pair-good s map none)
+  done : (n : ℕ) × (check_of s ≡ Ok n)
+  done = not-refused (check_of s) (pair-good s map none)
 
   count-is : pair.count ≡ done.0
   count-is = ap (λ (x : Pair). x.count) is.1 ∙ sym (good-count s (check_of s) refl done.0 done.1)
@@ -63,12 +55,12 @@ module _ (s map : List ℕ) (none : pair_refusal s map ≡ []) (pair : Pair) (is
   pub last_fits : Fits w8 (pair.count - 1)
   last_fits = record { fits = omega (arith, count-some, ap (λ (x : Pair). x.count) is.1, records-few s) }
 
-  pub checked : check_of s ≡ Done (pair.count - 1 + 1)
-  checked = let z : pair.count - 1 + 1 ≡ done.0 = omega (arith, count-some, count-is) in done.1 ∙ ap Done (sym z)
+  pub checked : check_of s ≡ Ok (pair.count - 1 + 1)
+  checked = let z : pair.count - 1 + 1 ≡ done.0 = omega (arith, count-some, count-is) in done.1 ∙ ap Ok (sym z)
 
   module _ (d : ℕ) (out : List ℕ) where
     -- ---- reply 6
-    pub smaller : d < pair.root.d → outcome (Refused Limits) out ≡ refine_of s map d out
+    pub smaller : d < pair.root.d → outcome (Err Limits) out ≡ refine_of s map d out
     unfolding refine_of
     smaller h = rw (none, lt-ltb d (root_of map).d (rw root_is at h))
 
@@ -83,9 +75,9 @@ module _ (s map : List ℕ) (none : pair_refusal s map ≡ []) (pair : Pair) (is
 
       -- b is what `is_within` returned
       module _ (b : Bool) (w : b ≡ in_limits root) where
-        pub illegal : not b ≡ true → outcome (Refused Limits) out ≡ refine_of s map d out
+        pub illegal : not b ≡ true → outcome (Err Limits) out ≡ refine_of s map d out
         unfolding over_root_with
-        illegal t = refined (outcome (Refused Limits) out) (rw (sym w ∙ not-true b t))
+        illegal t = refined (outcome (Err Limits) out) (rw (sym w ∙ not-true b t))
 
         pub deeper : not b ≡ false → Deeper map root
         deeper t =

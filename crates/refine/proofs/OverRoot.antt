@@ -1,4 +1,5 @@
 -- What the functions that refine a map over a root require, and the outcome at each test.
+use Rattle.std.specs.Prelude.{Err, Ok, Result}
 use mathlib.Core.Path.{◌≡◌, refl, sym, ap, ap₂, ◌∙◌}
 use mathlib.Core.Bool.{Bool, true, false, cond, true≢false}
 use mathlib.Core.List.{List, []}
@@ -14,7 +15,6 @@ use lib.Seq.{sets, sets-eq, length-sets}
 use Rattle.integers.proofs.Stores.{sets-append}
 use Rattle.replies.specs.declared.Over.{Over}
 use Rattle.replies.specs.declared.Refusal.TheVariants.{OverRoot, Short}
-use Rattle.replies.specs.declared.Reply.TheVariants.{Done, Refused}
 use Rattle.sheet.specs.declared.Record.{Record}
 use Rattle.cube.specs.declared.Root.{Root}
 use Rattle.cube.specs.declared.Cube.{Cube}
@@ -23,8 +23,6 @@ use Rattle.cube.specs.Cubes.{root_cube, cube_at}
 use Rattle.cube.proofs.Limits.{limits-sizes}
 use Rattle.cube.proofs.Cubes.{root-small, near-all, near-once, root-cube, inside-itself}
 use Rattle.colour.specs.declared.State.{State}
-use Rattle.colour.specs.declared.Judged.{Judged}
-use Rattle.colour.specs.declared.Judged.TheVariants.{Known, Past}
 use Rattle.colour.specs.Entries.{judged_of, first_past}
 use Rattle.colour.proofs.Told.{known-none, past_first}
 use Rattle.zonemap.specs.declared.Leaf.{Leaf}
@@ -54,15 +52,15 @@ module _ (map : List ℕ) (root : Root) (deeper : Deeper map root) where
     pub root-near : Near 0 q
     root-near = near-once root deeper.within q is
 
-    module _ (rs : List Record) (solid : ℕ) (j : Judged) (e : j ≡ judged_of rs q solid) where
+    module _ (rs : List Record) (solid : ℕ) (j : Result State Over) (e : j ≡ judged_of rs q solid) where
       abbrev Is : Outcome → List ℕ → Type 0
       Is o d = o ≡ over_root_with (λ rs. refined_map (solid_state rs) map) rs root d
 
-      pub over_root_lem : (o : Over) → j ≡ Past o → (d : List ℕ) → Is (outcome (Refused (OverRoot o)) d) d
+      pub over_root_lem : (o : Over) → j ≡ Err o → (d : List ℕ) → Is (outcome (Err (OverRoot o)) d) d
       unfolding over_root_with
       over_root_lem o h d = rw (deeper.within, past_first rs (root_cube root) q is solid j e o h)
 
-      pub under-limit : (state : State) → j ≡ Known state → (d : List ℕ) (o : Outcome) → o ≡ stored_of (refined_map (solid_state rs) map root) d → Is o d
+      pub under-limit : (state : State) → j ≡ Ok state → (d : List ℕ) (o : Outcome) → o ≡ stored_of (refined_map (solid_state rs) map root) d → Is o d
       unfolding over_root_with
       under-limit state h d o k = rw (deeper.within, known-none rs (root_cube root) q is solid j e state h) k
 
@@ -162,7 +160,7 @@ module _ (map : List ℕ) (root : Root) (deeper : Deeper map root) (rs : List Re
     n-is : n ≡ length new
     n-is = omega (arith, need-is)
 
-    pub too_short : length d₁ < end.to → outcome (Refused (Short end.to)) d₁ ≡ stored_of (refined_map over map root) d
+    pub too_short : length d₁ < end.to → outcome (Err (Short end.to)) d₁ ≡ stored_of (refined_map over map root) d
     unfolding stored_of
     too_short h = rw (length-is, ← need-is, ← same, lt-ltb (length d₁) end.to h)
 
@@ -189,8 +187,8 @@ module _ (map : List ℕ) (root : Root) (deeper : Deeper map root) (rs : List Re
               ∙ ap (λ (x : List ℕ). sets x 19 (leaves_bytes new)) (header ∙ ap₂ (λ (x : List ℕ) (i : ℕ). sets x 0 (header_of root i)) same n-is)
               ∙ sets-append d 0 19 (header_of root (length new)) (leaves_bytes new) (omega (arith, header-length root (length new)))
 
-          pub whole : outcome (Done end.to) d₃ ≡ stored_of (refined_map over map root) d
+          pub whole : outcome (Ok end.to) d₃ ≡ stored_of (refined_map over map root) d
           unfolding stored_of
           whole =
               rw (length-is, ← need-is, le-ltb (length d) end.to (rw same at room))
-              (ap (outcome (Done end.to)) (stored ∙ sets-eq (refined_map over map root) d 0 (omega (arith, length-is, need-is, rw same at room)) ∙ rw (zero-add, length-is, need-is)))
+              (ap (outcome (Ok end.to)) (stored ∙ sets-eq (refined_map over map root) d 0 (omega (arith, length-is, need-is, rw same at room)) ∙ rw (zero-add, length-is, need-is)))

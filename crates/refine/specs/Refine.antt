@@ -1,8 +1,7 @@
 -- Refining a finished map (request 2026-01): the reply, and what the lent buffer holds afterwards.
-use Rattle.std.specs.Prelude.{ℕ, cond, List, ltb}
+use Rattle.std.specs.Prelude.{ℕ, cond, List, ltb, Err}
 use Rattle.integers.specs.First.{on_first}
 use Rattle.replies.specs.declared.Refusal.TheVariants.{Limits}
-use Rattle.replies.specs.declared.Reply.TheVariants.{Refused}
 use Rattle.sheet.specs.Records.{records_of}
 use Rattle.cube.specs.Limits.{at_depth}
 use Rattle.zonemap.specs.Opening.{root_of}
@@ -15,6 +14,6 @@ use Rattle.pair.specs.Pairs.{pair_refusal}
 -- new depth (11 cannot occur, as request 2026-11 shows).
 unfoldable pub refine_of : List ℕ → List ℕ → ℕ → List ℕ → Outcome
 refine_of s map d out =
-    on_first (pair_refusal s map) (λ why. outcome (Refused why) out)
-    (cond (ltb d (root_of map).d) (outcome (Refused Limits) out)
+    on_first (pair_refusal s map) (λ why. outcome (Err why) out)
+    (cond (ltb d (root_of map).d) (outcome (Err Limits) out)
     (over_root_with (λ rs. refined_map (solid_state rs) map) (records_of s) (at_depth d (root_of map)) out))

@@ -1,7 +1,6 @@
 // Refining a map to a root's depth: reply 7 and what follows it. The leaves are counted, then written into the lent buffer.
 
-ghost use Rattle.std.specs.Prelude.{◌≡◌, ◌+◌, []};
-ghost use Rattle.replies.specs.declared.Reply.TheVariants.{Done};
+ghost use Rattle.std.specs.Prelude.{◌≡◌, ◌+◌, [], Ok};
 ghost use Rattle.sheet.specs.Records.{records_of};
 ghost use Rattle.sheet.specs.Check.{check_of};
 ghost use Rattle.records.specs.Offsets.{Offsets};
@@ -13,30 +12,29 @@ ghost use Rattle.replacing.specs.Replace.{refined_map};
 ghost use Rattle.replacing.specs.Walk.{Deeper};
 ghost use Rattle.building.specs.Build.{outcome, stored_of, over_root_with};
 
-use colour::Judged;
 use cube::Root;
 use replacing::Next;
-use replies::{Refusal, Reply};
+use replies::Refusal;
 use tape::Tape;
 
 // Reply 7, then the rest, for a map that is refined to the root's depth. Only the root can be refused for the limit: if no record passes it there, none does
 // over a smaller cube.
-pub fn over_root(sheet: &[u8], solid: u8, map: &[u8], root: Root, out: &mut [u8]) -> Reply
-    requires fact_1 { check_of sheet.now ≡ Done (solid + 1) }
+pub fn over_root(
+    sheet: &[u8],
+    solid: u8,
+    map: &[u8],
+    root: Root,
+    out: &mut [u8],
+) -> Result<usize, Refusal>
+    requires fact_1 { check_of sheet.now ≡ Ok (solid + 1) }
     requires fact_2 { Deeper map.now root }
     ensures { outcome result out.new ≡ over_root_with (λ rs. refined_map (solid_state rs) map.now) (records_of sheet.now) root out.old }
 {
     let count = solid as usize + 1;
     let mut offsets = [0u16; 256];
     records::list_offsets(sheet, count, &mut offsets);
-    match colour::judge(sheet, &offsets, count, root.cube(), solid) {
-        Judged::Known(_) => {
-            return started(sheet, &offsets, count, map, root, out);
-        }
-        Judged::Past(over) => {
-            return Reply::Refused(Refusal::OverRoot(over));
-        }
-    }
+    colour::judge(sheet, &offsets, count, root.cube(), solid).map_err(Refusal::OverRoot)?;
+    started(sheet, &offsets, count, map, root, out)
 }
 
 // The walks below the root share one tape and one place for each record's bounds and state, which lie here.
@@ -47,9 +45,9 @@ fn started(
     map: &[u8],
     root: Root,
     out: &mut [u8],
-) -> Reply
+) -> Result<usize, Refusal>
     requires fact_1 { Offsets offsets.now sheet.now }
-    requires fact_2 { check_of sheet.now ≡ Done count }
+    requires fact_2 { check_of sheet.now ≡ Ok count }
     requires fact_3 { Deeper map.now root }
     requires fact_4 { first_past (records_of sheet.now) (root_cube root) ≡ [] }
     ensures { outcome result out.new ≡ stored_of (refined_map (solid_state (records_of sheet.now)) map.now root) out.old }
@@ -95,7 +93,7 @@ fn stored(
     t: Tape,
     root: Root,
     out: &mut [u8],
-) -> Reply
+) -> Result<usize, Refusal>
     requires fact_1 { Lent (records_of sheet.now) low.old high.old classes.old faces.old }
     requires fact_2 { Starts (records_of sheet.now) tape.old t }
     requires fact_3 { Deeper map.now root }
@@ -112,12 +110,12 @@ fn stored(
     );
     let need = end.to;
     if out.len() < need {
-        return Reply::Refused(Refusal::Short(need));
+        return Err(Refusal::Short(need));
     }
     let n = (need - zonemap::HEADER) / 3;
     zonemap::put_header(out, root, n as u32);
     let _end = replacing::walk(
         sheet, map, out, tape, low, high, classes, faces, t, top, root.d, first, true,
     );
-    Reply::Done(need)
+    Ok(need)
 }

@@ -8,35 +8,29 @@ ghost use Rattle.refine.specs.Refine.{refine_of};
 
 use crate::deepening::over_root;
 use cube::Point;
-use pair::{Opened, Pair};
-use replies::{Refusal, Reply};
+use pair::Pair;
+use replies::Refusal;
 
 // Refines a map to depth d at the start of `out`. A refusal leaves `out` unchanged. The leaf that opening finds is not used, so any point will do.
-pub fn refine(sheet: &[u8], map: &[u8], d: u8, out: &mut [u8]) -> Reply
+pub fn refine(sheet: &[u8], map: &[u8], d: u8, out: &mut [u8]) -> Result<usize, Refusal>
     ensures { outcome result out.new ≡ refine_of sheet.now map.now d out.old }
 {
-    match pair::open(sheet, map, Point { x: 0, y: 0, z: 0 }) {
-        Opened::Good(pair) => {
-            return deepen(sheet, map, pair, d, out);
-        }
-        Opened::Refused(why) => {
-            return Reply::Refused(why);
-        }
-    }
+    let pair = pair::open(sheet, map, Point { x: 0, y: 0, z: 0 })?;
+    deepen(sheet, map, pair, d, out)
 }
 
 // Reply 6 for a smaller or illegal depth, then the rest.
-fn deepen(sheet: &[u8], map: &[u8], pair: Pair, d: u8, out: &mut [u8]) -> Reply
+fn deepen(sheet: &[u8], map: &[u8], pair: Pair, d: u8, out: &mut [u8]) -> Result<usize, Refusal>
     requires fact_1 { pair_refusal sheet.now map.now ≡ [] }
     requires fact_2 { ((p : Point) × (pair ≡ pair_of sheet.now map.now p)) }
     ensures { outcome result out.new ≡ refine_of sheet.now map.now d out.old }
 {
     if d < pair.root.d {
-        return Reply::Refused(Refusal::Limits);
+        return Err(Refusal::Limits);
     }
     let root = pair.root.at_depth(d);
     if !root.is_within() {
-        return Reply::Refused(Refusal::Limits);
+        return Err(Refusal::Limits);
     }
     over_root(sheet, (pair.count - 1) as u8, map, root, out)
 }

@@ -5,15 +5,9 @@
 ghost use Rattle.std.specs.Prelude.{◌≤◌};
 
 fn main(rt: HostRuntime) {
-    let mut input = [0u8; 65536];
-    let n = buffers::read_full(&mut rt.stdin(), &mut input);
-    let mut vector = [0u8; 640];
-    let mut at = 0;
-    while at < n {
-        let line = vectors::read_line(&rt, &input[..n], at, &mut vector);
-        refine_from(&rt, &vector[..line.size]);
-        at = line.next;
-    }
+    vectors::with_input::<65536, _, _>(&mut rt.stdin(), |input| {
+        vectors::answer_all(&rt, input, |vector| refine_from(&rt, vector));
+    });
 }
 
 // A vector is the depth, the number of bytes lent, the number of bytes of the map, the map, and the sheet. One that is too short leaves its line without an

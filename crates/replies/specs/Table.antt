@@ -1,12 +1,10 @@
 -- The table of replies: the code of each refusal, and the number returned with it, in the order of test.
-use Rattle.std.specs.Prelude.{ℕ, ◌+◌, ◌*◌, List, [], ◌∷◌}
+use Rattle.std.specs.Prelude.{ℕ, ◌+◌, ◌*◌, List, [], ◌∷◌, Result, Err, Ok}
 use Rattle.replies.specs.declared.End.{End}
 use Rattle.replies.specs.declared.End.TheVariants.{Low, High}
 use Rattle.replies.specs.declared.Over.{Over}
 use Rattle.replies.specs.declared.Refusal.{Refusal}
 use Rattle.replies.specs.declared.Refusal.TheVariants.{Length, Version, Record, Operand, Solid, Limits, Map, OverRoot, Short, NotInRoot}
-use Rattle.replies.specs.declared.Reply.{Reply}
-use Rattle.replies.specs.declared.Reply.TheVariants.{Done, Refused}
 
 abbrev pub code_of : Refusal → ℕ
 code_of Length = 1
@@ -44,7 +42,11 @@ number_of (OverRoot o) = over_number o
 number_of (Short n) = n
 number_of NotInRoot = 0
 
+-- what a call returns: a number, such as that of records, leaves or bytes, or why it refuses
+abbrev pub Reply : Type 0
+Reply = Result ℕ Refusal
+
 -- the refusal of a reply, if it is one
 abbrev pub refusal_of : Reply → List Refusal
-refusal_of (Done n) = []
-refusal_of (Refused why) = why ∷ []
+refusal_of (Ok n) = []
+refusal_of (Err why) = why ∷ []

@@ -34,13 +34,6 @@ pub enum Refusal {
     NotInRoot,
 }
 
-// What a call returns: a number, such as that of records, leaves or bytes, or why it refuses.
-#[derive(Clone, Copy)]
-pub enum Reply {
-    Done(usize),
-    Refused(Refusal),
-}
-
 impl Over {
     // Twice the record's number, plus 1 for the high end.
     fn number(self) -> usize

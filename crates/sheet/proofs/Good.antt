@@ -1,4 +1,5 @@
 -- What a sheet that was found good tells: no row refused it, it has so many records, and there is a last one.
+use Rattle.std.specs.Prelude.{Err, Ok, Result}
 use mathlib.Core.Path.{◌≡◌, refl, sym, ◌∙◌}
 use mathlib.Core.Bool.{true, false}
 use mathlib.Core.List.{List, [], ◌∷◌}
@@ -11,29 +12,27 @@ use Rattle.integers.proofs.Order.{by-test}
 use Rattle.sheet.specs.declared.Record.{Record}
 use Rattle.sheet.specs.declared.Sort.{Sort}
 use Rattle.sheet.specs.declared.Sort.TheVariants.{Neither, Arithmetic, Logical}
-use Rattle.sheet.specs.declared.Read.{Read}
-use Rattle.sheet.specs.declared.Read.TheVariants.{Found, Refused}
 use Rattle.replies.specs.declared.Refusal.{Refusal}
 use Rattle.replies.specs.declared.Refusal.TheVariants.{Length, Version, Operand, Solid, Record as BadRecord}
-use Rattle.replies.specs.declared.Reply.{Reply}
-use Rattle.replies.specs.declared.Reply.TheVariants.{Done, Refused as Bad}
+use Rattle.replies.specs.Table.{Reply}
 use Rattle.sheet.specs.Table.{read_at}
 use Rattle.sheet.specs.Records.{on_read, read_from, reading, records_of, stop_of}
 use Rattle.sheet.specs.Operands.{first_unmet, last_sort}
 use Rattle.sheet.specs.Check.{length_fails, is_version, solid_of, check_records, check_of}
 use Rattle.sheet.proofs.Unmet.{unmet-most}
+use Rattle.sheet.specs.declared.Cursor.{Cursor}
 
 -- a refusal is not good
-pub not_good : {A : Type 0} (why : Refusal) (n : ℕ) → Bad why ≡ Done n → A
+pub not_good : {A : Type 0} (why : Refusal) (n : ℕ) → Err why ≡ Ok n → A
 not_good why n e = let z : ◌≡◌ {A = ℕ} 0 1 = cc in absurd (omega arith)
 
 -- ---- what is so where no row refuses
-solid-good : (sort : Sort) (m n : ℕ) → solid_of sort m ≡ Done n → (n ≡ m) × (sort ≡ Logical)
+solid-good : (sort : Sort) (m n : ℕ) → solid_of sort m ≡ Ok n → (n ≡ m) × (sort ≡ Logical)
 solid-good Neither m n e = not_good (Solid m) n e
 solid-good Arithmetic m n e = not_good (Solid m) n e
 solid-good Logical m n e = (cc, refl)
 
-pub sorted-good : (rs : List Record) (n : ℕ) → check_records rs ≡ Done n → (n ≡ length rs) × (first_unmet [] rs ≡ length rs) × (last_sort rs ≡ Logical)
+pub sorted-good : (rs : List Record) (n : ℕ) → check_records rs ≡ Ok n → (n ≡ length rs) × (first_unmet [] rs ≡ length rs) × (last_sort rs ≡ Logical)
 unfolding check_records
 sorted-good rs n e =
     by-test (ltb (first_unmet [] rs) (length rs))
@@ -42,7 +41,7 @@ sorted-good rs n e =
     let last = solid-good (last_sort rs) (length rs) n (rw t at e) in
     (last.0, omega (arith, ltb-false (first_unmet [] rs) (length rs) t, unmet-most [] rs), last.1))
 
-pub check-parts : (s : List ℕ) (n : ℕ) → check_of s ≡ Done n → (length_fails s ≡ false) × (is_version (get_or s 2 0) ≡ true) × (length s ≤ stop_of s) × (check_records (records_of s) ≡ Done n)
+pub check-parts : (s : List ℕ) (n : ℕ) → check_of s ≡ Ok n → (length_fails s ≡ false) × (is_version (get_or s 2 0) ≡ true) × (length s ≤ stop_of s) × (check_records (records_of s) ≡ Ok n)
 unfolding check_of
 check-parts s n e =
     by-test (length_fails s)
@@ -59,9 +58,9 @@ some [] e = let z : ◌≡◌ {A = ℕ} 0 1 = cc in absurd (omega arith)
 some (r ∷ rs) e = omega arith
 
 -- ---- at most 256 records
-on_read_lem : (k : Read) (left : ℕ) (s : List ℕ) → ((at : ℕ) → length (read_from left s at).records ≤ left) → length (on_read k (λ next. read_from left s next.at)).records ≤ suc left
-on_read_lem (Found r next) left s h = omega (arith, h next.at)
-on_read_lem (Refused at) left s h = omega arith
+on_read_lem : (k : Result (Record × Cursor) ℕ) (left : ℕ) (s : List ℕ) → ((at : ℕ) → length (read_from left s at).records ≤ left) → length (on_read k (λ next. read_from left s next.at)).records ≤ suc left
+on_read_lem (Ok (r, next)) left s h = omega (arith, h next.at)
+on_read_lem (Err at) left s h = omega arith
 
 few-from : (left : ℕ) (s : List ℕ) (at : ℕ) → length (read_from left s at).records ≤ left
 unfolding read_from
@@ -77,7 +76,7 @@ pub number-few : (s : List ℕ) (count n : ℕ) → count ≡ length (records_of
 number-few s count n e h = omega (arith, records-few s)
 
 -- r is what `check` returned
-module _ (s : List ℕ) (r : Reply) (e : r ≡ check_of s) (n : ℕ) (d : r ≡ Done n) where
+module _ (s : List ℕ) (r : Reply) (e : r ≡ check_of s) (n : ℕ) (d : r ≡ Ok n) where
   sorted : (n ≡ length (records_of s)) × (first_unmet [] (records_of s) ≡ length (records_of s)) × (last_sort (records_of s) ≡ Logical)
   sorted = sorted-good (records_of s) n (check-parts s n (sym e ∙ d)).3
 

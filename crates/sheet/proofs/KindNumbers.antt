@@ -1,4 +1,5 @@
 -- Document 01's table of kinds by its numbers: each row, that there are no others, and the sorts of a record and of its operands by its kind. And the versions.
+use Rattle.std.specs.Prelude.{None, Some}
 use mathlib.Core.Path.{◌≡◌, refl, sym, ap, ap₂, ◌∙◌}
 use mathlib.Core.Bool.{true, false, cond, ◌&&◌, true≢false, and-eq-true_iff}
 use Prim.Native.Nat.{ℕ}
@@ -10,7 +11,6 @@ use Rattle.sheet.specs.declared.Comparison.{Comparison}
 use Rattle.sheet.specs.declared.Comparison.TheVariants.{AtMost, LessThan}
 use Rattle.sheet.specs.declared.Record.{Record}
 use Rattle.sheet.specs.declared.Record.TheVariants.{Constant, X, Y, Z, Sum, Difference, Product, Square, Face, Both, Either, Complement}
-use Rattle.sheet.specs.declared.Row.TheVariants.{Known, Unknown}
 use Rattle.sheet.specs.declared.Sort.TheVariants.{Neither, Arithmetic, Logical}
 use Rattle.sheet.specs.Table.{comparison_of, row_of, is_known}
 use Rattle.sheet.specs.Operands.{sort_of, asked_of}
@@ -18,18 +18,18 @@ use Rattle.sheet.specs.Check.{is_version}
 
 -- ---- the table: count byte, kind, record
 record Table (by : Comparison) (a b : ℕ) (c : ℤ) : Type 0 where
-  constant : row_of by 5 1 a b c ≡ Known (Constant c)
-  x : row_of by 1 2 a b c ≡ Known X
-  y : row_of by 1 3 a b c ≡ Known Y
-  z : row_of by 1 4 a b c ≡ Known Z
-  sum : row_of by 3 5 a b c ≡ Known (Sum a b)
-  difference : row_of by 3 6 a b c ≡ Known (Difference a b)
-  product : row_of by 3 7 a b c ≡ Known (Product a b)
-  square : row_of by 2 8 a b c ≡ Known (Square a)
-  face : row_of by 2 16 a b c ≡ Known (Face by a)
-  both : row_of by 3 17 a b c ≡ Known (Both a b)
-  either : row_of by 3 18 a b c ≡ Known (Either a b)
-  complement : row_of by 2 19 a b c ≡ Known (Complement a)
+  constant : row_of by 5 1 a b c ≡ Some (Constant c)
+  x : row_of by 1 2 a b c ≡ Some X
+  y : row_of by 1 3 a b c ≡ Some Y
+  z : row_of by 1 4 a b c ≡ Some Z
+  sum : row_of by 3 5 a b c ≡ Some (Sum a b)
+  difference : row_of by 3 6 a b c ≡ Some (Difference a b)
+  product : row_of by 3 7 a b c ≡ Some (Product a b)
+  square : row_of by 2 8 a b c ≡ Some (Square a)
+  face : row_of by 2 16 a b c ≡ Some (Face by a)
+  both : row_of by 3 17 a b c ≡ Some (Both a b)
+  either : row_of by 3 18 a b c ≡ Some (Either a b)
+  complement : row_of by 2 19 a b c ≡ Some (Complement a)
 
 table : (by : Comparison) (a b : ℕ) (c : ℤ) → Table by a b c
 unfolding row_of
@@ -77,16 +77,16 @@ count_of (Both p q) = 3
 count_of (Either p q) = 3
 count_of (Complement p) = 2
 
-module _ (by : Comparison) (size kind a b : ℕ) (c : ℤ) (r : Record) (known : row_of by size kind a b c ≡ Known r) where
+module _ (by : Comparison) (size kind a b : ℕ) (c : ℤ) (r : Record) (known : row_of by size kind a b c ≡ Some r) where
   abbrev Told : Type 0
   Told = (size ≡ count_of r) × (kind ≡ kind_of r)
 
-  hit : (what : Record) → row_of by (count_of what) (kind_of what) a b c ≡ Known what → (eqb size (count_of what) && eqb kind (kind_of what)) ≡ true → Told
+  hit : (what : Record) → row_of by (count_of what) (kind_of what) a b c ≡ Some what → (eqb size (count_of what) && eqb kind (kind_of what)) ≡ true → Told
   hit what row t =
       let e = (and-eq-true_iff (eqb size (count_of what)) (eqb kind (kind_of what))).0 t in
       let s = eqb-true size (count_of what) e.0 in
       let k = eqb-true kind (kind_of what) e.1 in
-      let same : Known what ≡ Known r = sym row ∙ ap₂ (λ (i j : ℕ). row_of by i j a b c) (sym s) (sym k) ∙ known in
+      let same : Some what ≡ Some r = sym row ∙ ap₂ (λ (i j : ℕ). row_of by i j a b c) (sym s) (sym k) ∙ known in
       let q : what ≡ r = cc in
       (s ∙ ap count_of q, k ∙ ap kind_of q)
 
@@ -105,7 +105,7 @@ module _ (by : Comparison) (size kind a b : ℕ) (c : ℤ) (r : Record) (known :
       by-test (eqb size 3 && eqb kind 17) (hit (Both a b) refl) (λ t10.
       by-test (eqb size 3 && eqb kind 18) (hit (Either a b) refl) (λ t11.
       by-test (eqb size 2 && eqb kind 19) (hit (Complement a) refl) (λ t12.
-      let none : Unknown ≡ Known r = rw (t1, t2, t3, t4, t5, t6, t7, t8, t9, t10, t11, t12) at known in
+      let none : None ≡ Some r = rw (t1, t2, t3, t4, t5, t6, t7, t8, t9, t10, t11, t12) at known in
       absurd (true≢false (sym (ap is_known none)))))))))))))))
 
 -- ---- sorts by kind

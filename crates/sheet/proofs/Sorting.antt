@@ -1,4 +1,5 @@
 -- The loop that tests operands. Its invariant: n records are done, an array holds their sorts, and the result for the remaining records is the result for the whole sheet.
+use Rattle.std.specs.Prelude.{Err, Ok, Result}
 use mathlib.Core.Path.{◌≡◌, refl, sym, ap, ◌∙◌}
 use mathlib.Core.Bool.{Bool, true, false, not, cond}
 use mathlib.Core.List.{List, [], ◌∷◌, ◌++◌, map}
@@ -13,11 +14,8 @@ use Rattle.sheet.specs.declared.Record.TheVariants.{X}
 use Rattle.sheet.specs.declared.Sort.{Sort}
 use Rattle.sheet.specs.declared.Sort.TheVariants.{Neither}
 use Rattle.sheet.specs.declared.Cursor.{Cursor}
-use Rattle.sheet.specs.declared.Read.{Read}
-use Rattle.sheet.specs.declared.Read.TheVariants.{Found, Refused}
 use Rattle.replies.specs.declared.Refusal.TheVariants.{Operand}
-use Rattle.replies.specs.declared.Reply.{Reply}
-use Rattle.replies.specs.declared.Reply.TheVariants.{Refused as Bad}
+use Rattle.replies.specs.Table.{Reply}
 use Rattle.sheet.specs.Table.{read_at}
 use Rattle.sheet.specs.Records.{start, records_of}
 use Rattle.sheet.specs.Operands.{sort_of, asked_of, first_of, second_of, are_met, is_met, first_unmet, last_sort}
@@ -63,12 +61,12 @@ sorting_start s c e =
     }
 
 -- k is what `Cursor::read` returned
-module _ (s : List ℕ) (sorts : List Sort) (last : Sort) (n : ℕ) (c : Cursor) (w : Sorting s sorts last n c) (k : Read) (is : k ≡ read_at s c) where
+module _ (s : List ℕ) (sorts : List Sort) (last : Sort) (n : ℕ) (c : Cursor) (w : Sorting s sorts last n c) (k : Result (Record × Cursor) ℕ) (is : k ≡ read_at s c) where
   abbrev rs : List Record
   rs = records_of s
 
   -- at a record: the code's test is that of the definition
-  module _ (r : Record) (next : Cursor) (e : k ≡ Found r next) (a b : ℕ) (ask : Sort) (met : Bool)
+  module _ (r : Record) (next : Cursor) (e : k ≡ Ok (r, next)) (a b : ℕ) (ask : Sort) (met : Bool)
       (ea : a ≡ first_of r) (eb : b ≡ second_of r) (ek : ask ≡ asked_of r) (em : met ≡ are_met ask (get_or sorts a Neither) (get_or sorts b Neither)) where
     tested : met ≡ is_met (sorts_of rs n) r
     tested = em ∙ rw (ek, ea, eb, w.reads (first_of r), w.reads (second_of r))
@@ -83,7 +81,7 @@ module _ (s : List ℕ) (sorts : List Sort) (last : Sort) (n : ℕ) (c : Cursor)
     unfolding first_unmet
     step = rw (here s c n w.walk k is r next e, ← rest-is s c n w.walk k is r next e, ← tested, len)
 
-    pub unmet : not met ≡ true → Bad (Operand n) ≡ check_records rs
+    pub unmet : not met ≡ true → Err (Operand n) ≡ check_records rs
     unfolding check_records
     unmet h =
         let f : first_unmet [] rs ≡ n = sym w.same ∙ step ∙ rw (not-true met h) in
@@ -106,7 +104,7 @@ module _ (s : List ℕ) (sorts : List Sort) (last : Sort) (n : ℕ) (c : Cursor)
         }
 
   -- at the end
-  module _ (x : ℕ) (e : k ≡ Refused x) where
+  module _ (x : ℕ) (e : k ≡ Err x) where
     pub sorted-end : (reply : Reply) → reply ≡ solid_of last n → reply ≡ check_records rs
     unfolding check_records first_unmet
     sorted-end reply h =

@@ -1,9 +1,9 @@
 -- What is read from the step room's sheet.
+use Rattle.std.specs.Prelude.{Ok}
 use mathlib.Core.Path.{◌≡◌, refl}
 use mathlib.Core.Bool.{true}
 use Prim.Native.Nat.{ℕ}
 use Rattle.bigendian.specs.Numbers.{unsigned_at, signed32}
-use Rattle.replies.specs.declared.Reply.TheVariants.{Done}
 use Rattle.sheet.specs.StepRoom.{step_sheet_of, step_records_by}
 use Rattle.sheet.specs.Table.{comparison_of, row_of, row_at, read_at}
 use Rattle.sheet.specs.Records.{read_from, reading, records_of}
@@ -14,6 +14,6 @@ pub step-records : (version : ℕ) → records_of (step_sheet_of version) ≡ st
 unfolding step_sheet_of reading read_from read_at row_at row_of signed32 unsigned_at
 step-records version = refl
 
-pub step-check : (version : ℕ) → is_version version ≡ true → check_of (step_sheet_of version) ≡ Done 8
+pub step-check : (version : ℕ) → is_version version ≡ true → check_of (step_sheet_of version) ≡ Ok 8
 unfolding step_sheet_of check_of check_records first_unmet last_sort reading read_from read_at row_at row_of unsigned_at
 step-check version h = rw h

@@ -1,4 +1,5 @@
 -- Walking through a sheet's records by `Cursor::read`: what holds at a cursor with n records before it. Every loop over records uses it.
+use Rattle.std.specs.Prelude.{Err, None, Ok, Option, Result, Some}
 use mathlib.Core.Path.{◌≡◌, refl, sym, ap, ◌∙◌}
 use mathlib.Core.Bool.{Bool, true, false, cond}
 use mathlib.Core.List.{List, [], ◌∷◌, ◌++◌}
@@ -12,36 +13,34 @@ use mir.Syntax.{w64}
 use mir.Val.{Fits}
 use lib.Seq.{get_or-drop, drop-drop, take-suc}
 use Rattle.sheet.specs.declared.Record.{Record}
-use Rattle.sheet.specs.declared.Row.{Row}
-use Rattle.sheet.specs.declared.Row.TheVariants.{Known, Unknown}
 use Rattle.sheet.specs.declared.Cursor.{Cursor}
-use Rattle.sheet.specs.declared.Read.{Read}
-use Rattle.sheet.specs.declared.Read.TheVariants.{Found, Refused}
-use Rattle.sheet.specs.Table.{row_at, on_row, read_at, reached_of, is_known, Stands}
+use Rattle.sheet.specs.Table.{row_at, on_row, read_at, is_known, Stands}
 use Rattle.sheet.specs.Records.{Reading, first, on_read, read_from, start, reading, records_of, stop_of}
 
 -- ---- one read
-clash : {x : ℕ} {r : Record} {next : Cursor} → Refused x ≡ Found r next → ⊥
+clash : {x : ℕ} {r : Record} {next : Cursor} → ◌≡◌ {A = Result (Record × Cursor) ℕ} (Err x) (Ok (r, next)) → ⊥
 clash e = let z : ◌≡◌ {A = ℕ} 0 1 = cc in omega arith
 
-past : (b : Bool) (x : ℕ) (rest : Read) {r : Record} {next : Cursor} → cond b (Refused x) rest ≡ Found r next → rest ≡ Found r next
+past : (b : Bool) (x : ℕ) (rest : Result (Record × Cursor) ℕ) {r : Record} {next : Cursor} → cond b (Err x) rest ≡ Ok (r, next) → rest ≡ Ok (r, next)
 past true x rest e = absurd (clash e)
 past false x rest e = e
 
-known : (row : Row) (to : Cursor) (x : ℕ) {r : Record} {next : Cursor} → on_row row to x ≡ Found r next → (row ≡ Known r) × (next ≡ to)
-known (Known what) to x e = (cc, cc)
-known Unknown to x e = absurd (clash e)
+known : (row : Option Record) (to : Cursor) (x : ℕ) {r : Record} {next : Cursor} → on_row row to x ≡ Ok (r, next) → (row ≡ Some r) × (next ≡ to)
+known (Some what) to x {r} {next} e =
+    let q : ◌≡◌ {A = Record × Cursor} (what, to) (r, next) = cc in
+    (ap (λ (p : Record × Cursor). Some p.0) q, sym (ap (λ (p : Record × Cursor). p.1) q))
+known None to x e = absurd (clash e)
 
-over : (b : Bool) (x : ℕ) (rest : Read) {r : Record} {next : Cursor} → cond b (Refused x) rest ≡ Found r next → b ≡ false
+over : (b : Bool) (x : ℕ) (rest : Result (Record × Cursor) ℕ) {r : Record} {next : Cursor} → cond b (Err x) rest ≡ Ok (r, next) → b ≡ false
 over true x rest e = absurd (clash e)
 over false x rest e = refl
 
-module _ (s : List ℕ) (c : Cursor) {r : Record} {next : Cursor} (e : read_at s c ≡ Found r next) where
-  row : cond (leb (length s) (c.at + get_or s c.at 0)) (Refused c.at) (on_row (row_at s c.at) (record { at = c.at + 1 + get_or s c.at 0; left = c.left - 1 }) c.at) ≡ Found r next
+module _ (s : List ℕ) (c : Cursor) {r : Record} {next : Cursor} (e : read_at s c ≡ Ok (r, next)) where
+  row : cond (leb (length s) (c.at + get_or s c.at 0)) (Err c.at) (on_row (row_at s c.at) (record { at = c.at + 1 + get_or s c.at 0; left = c.left - 1 }) c.at) ≡ Ok (r, next)
   unfolding read_at
   row = past (eqb c.left 0) c.at _ e
 
-  fitting : (row_at s c.at ≡ Known r) × (next ≡ record { at = c.at + 1 + get_or s c.at 0; left = c.left - 1 })
+  fitting : (row_at s c.at ≡ Some r) × (next ≡ record { at = c.at + 1 + get_or s c.at 0; left = c.left - 1 })
   fitting = known (row_at s c.at) _ c.at (past (leb (length s) (c.at + get_or s c.at 0)) c.at _ row)
 
   -- after reading a record, one fewer may follow
@@ -52,18 +51,18 @@ module _ (s : List ℕ) (c : Cursor) {r : Record} {next : Cursor} (e : read_at s
   found-stands : Stands s c.at
   found-stands = record { inside = leb-false (length s) (c.at + get_or s c.at 0) (over _ c.at _ row); known = ap is_known fitting.0 }
 
-pub read_more : (s : List ℕ) (at left : ℕ) {r : Record} {next : Cursor} → read_at s (record { at = at; left = left }) ≡ Found r next
+pub read_more : (s : List ℕ) (at left : ℕ) {r : Record} {next : Cursor} → read_at s (record { at = at; left = left }) ≡ Ok (r, next)
     → (0 < left) × (read_from left s at ≡ first r (read_from next.left s next.at))
 unfolding read_at read_from
 read_more s at zero e = absurd (clash e)
 read_more s at (suc left) {r} {next} e =
     let f : next.left ≡ left = fewer s (record { at = at; left = suc left }) e ∙ (let z : suc left - 1 ≡ left = omega arith in z) in
-    (omega arith, ap (λ (k : Read). on_read k (λ to. read_from left s to.at)) e ∙ ap (λ (n : ℕ). first r (read_from n s next.at)) (sym f))
+    (omega arith, ap (λ (k : Result (Record × Cursor) ℕ). on_read k (λ to. read_from left s to.at)) e ∙ ap (λ (n : ℕ). first r (read_from n s next.at)) (sym f))
 
-pub read-stop : (s : List ℕ) (at left : ℕ) {x : ℕ} → read_at s (record { at = at; left = left }) ≡ Refused x → read_from left s at ≡ record { records = []; stop = x }
+pub read-stop : (s : List ℕ) (at left : ℕ) {x : ℕ} → read_at s (record { at = at; left = left }) ≡ Err x → read_from left s at ≡ record { records = []; stop = x }
 unfolding read_at read_from
 read-stop s at zero e = cc
-read-stop s at (suc left) e = ap (λ (k : Read). on_read k (λ to. read_from left s to.at)) e
+read-stop s at (suc left) e = ap (λ (k : Result (Record × Cursor) ℕ). on_read k (λ to. read_from left s to.at)) e
 
 -- ---- the walk
 -- the cursor c has n records before it
@@ -78,9 +77,9 @@ unfolding reading
 at-start s = record { total = refl; among = omega arith; rest = refl; stops = refl }
 
 -- k is what `Cursor::read` returned
-module _ (s : List ℕ) (c : Cursor) (n : ℕ) (w : At s c n) (k : Read) (is : k ≡ read_at s c) where
-  module _ (r : Record) (next : Cursor) (e : k ≡ Found r next) where
-    there : read_at s c ≡ Found r next
+module _ (s : List ℕ) (c : Cursor) (n : ℕ) (w : At s c n) (k : Result (Record × Cursor) ℕ) (is : k ≡ read_at s c) where
+  module _ (r : Record) (next : Cursor) (e : k ≡ Ok (r, next)) where
+    there : read_at s c ≡ Ok (r, next)
     there = sym is ∙ e
 
     more-there : (0 < c.left) × (read_from c.left s c.at ≡ first r (read_from next.left s next.at))
@@ -119,7 +118,7 @@ module _ (s : List ℕ) (c : Cursor) (n : ℕ) (w : At s c n) (k : Read) (is : k
           stops = ap (λ (k : Reading). k.stop) (sym more-there.1) ∙ w.stops;
         }
 
-  module _ (x : ℕ) (e : k ≡ Refused x) where
+  module _ (x : ℕ) (e : k ≡ Err x) where
     ended : read_from c.left s c.at ≡ record { records = []; stop = x }
     ended = read-stop s c.at c.left (sym is ∙ e)
 
@@ -129,14 +128,14 @@ module _ (s : List ℕ) (c : Cursor) (n : ℕ) (w : At s c n) (k : Read) (is : k
         let f : drop n (records_of s) ≡ [] = sym w.rest ∙ ap (λ (k : Reading). k.records) ended in
         omega (arith, length-drop n (records_of s), ap length f, w.among)
 
-    pub stop_is : (at : ℕ) → at ≡ reached_of k → at ≡ stop_of s
-    stop_is at r = r ∙ ap reached_of e ∙ ap (λ (k : Reading). k.stop) (sym ended) ∙ w.stops
+    pub stop_is : x ≡ stop_of s
+    stop_is = ap (λ (k : Reading). k.stop) (sym ended) ∙ w.stops
 
 -- ---- the walk of a loop that does not count
 pub at_first : (s : List ℕ) (c : Cursor) → c ≡ start → At s c (256 - c.left)
 at_first s c e = rw e (at-start s)
 
-pub at_after : (s : List ℕ) (c : Cursor) → At s c (256 - c.left) → (k : Read) → k ≡ read_at s c → (r : Record) (next : Cursor) → k ≡ Found r next → At s next (256 - next.left)
+pub at_after : (s : List ℕ) (c : Cursor) → At s c (256 - c.left) → (k : Result (Record × Cursor) ℕ) → k ≡ read_at s c → (r : Record) (next : Cursor) → k ≡ Ok (r, next) → At s next (256 - next.left)
 at_after s c w k is r next e =
     let n : ℕ = 256 - c.left in
     let t = at_next s c n w k is r next e in
@@ -156,18 +155,18 @@ module _ (s : List ℕ) (at n : ℕ) (w : Before s at n) (more : n < length (rec
   here-at = record { at = at; left = 256 - n }
 
   -- a record can be read there, so what follows from one follows
-  read-there : {A : Type 0} → ((r : Record) (next : Cursor) → read_at s here-at ≡ Found r next → A) → A
+  read-there : {A : Type 0} → ((r : Record) (next : Cursor) → read_at s here-at ≡ Ok (r, next) → A) → A
   read-there {A} f = by (read_at s here-at) refl
     where
-      by : (k : Read) → read_at s here-at ≡ k → A
-      by (Found r next) e = f r next e
-      by (Refused x) e = let z : ⊥ = omega (arith, all_read s here-at n w _ refl x e) in absurd z
+      by : (k : Result (Record × Cursor) ℕ) → read_at s here-at ≡ k → A
+      by (Ok (r, next)) e = f r next e
+      by (Err x) e = let z : ⊥ = omega (arith, all_read s here-at n w _ refl x e) in absurd z
 
   pub stands : Stands s at
   stands = read-there (λ r next e. found-stands s here-at e)
 
-  module _ (r : Record) (e : row_at s at ≡ Known r) where
-    same : (q : Record) (next : Cursor) → read_at s here-at ≡ Found q next → q ≡ r
+  module _ (r : Record) (e : row_at s at ≡ Some r) where
+    same : (q : Record) (next : Cursor) → read_at s here-at ≡ Ok (q, next) → q ≡ r
     same q next f = let k = (fitting s here-at f).0 in cc
 
     pub stands-record : (d : Record) → get_or (records_of s) n d ≡ r

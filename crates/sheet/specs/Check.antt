@@ -1,12 +1,11 @@
 -- The test of a whole sheet: replies 1 to 5, in their order.
-use Rattle.std.specs.Prelude.{ℕ, ◌+◌, Bool, cond, not, ◌||◌, List, [], eqb, ltb, length, get_or}
+use Rattle.std.specs.Prelude.{ℕ, ◌+◌, Bool, cond, not, ◌||◌, List, [], eqb, ltb, length, get_or, Err, Ok}
 use Rattle.bigendian.specs.Numbers.{unsigned_at}
 use Rattle.sheet.specs.declared.Record.{Record}
 use Rattle.sheet.specs.declared.Sort.{Sort}
 use Rattle.sheet.specs.declared.Sort.TheVariants.{Neither, Arithmetic, Logical}
 use Rattle.replies.specs.declared.Refusal.TheVariants.{Length, Version, Operand, Solid, Record as BadRecord}
-use Rattle.replies.specs.declared.Reply.{Reply}
-use Rattle.replies.specs.declared.Reply.TheVariants.{Done, Refused}
+use Rattle.replies.specs.Table.{Reply}
 use Rattle.sheet.specs.Records.{records_of, stop_of}
 use Rattle.sheet.specs.Operands.{first_unmet, last_sort}
 
@@ -20,18 +19,18 @@ is_version version = eqb version 1 || eqb version 2
 
 -- The last record must be logical and is the solid. (n is how many records there are.)
 abbrev pub solid_of : Sort → ℕ → Reply
-solid_of Neither n = Refused (Solid n)
-solid_of Arithmetic n = Refused (Solid n)
-solid_of Logical n = Done n
+solid_of Neither n = Err (Solid n)
+solid_of Arithmetic n = Err (Solid n)
+solid_of Logical n = Ok n
 
 -- replies 4 and 5, of the records alone
 unfoldable pub check_records : List Record → Reply
-check_records rs = cond (ltb (first_unmet [] rs) (length rs)) (Refused (Operand (first_unmet [] rs))) (solid_of (last_sort rs) (length rs))
+check_records rs = cond (ltb (first_unmet [] rs) (length rs)) (Err (Operand (first_unmet [] rs))) (solid_of (last_sort rs) (length rs))
 
 -- the table of replies from 1 to 5, row by row
 unfoldable pub check_of : List ℕ → Reply
 check_of s =
-    cond (length_fails s) (Refused Length)
-    (cond (not (is_version (get_or s 2 0))) (Refused Version)
-    (cond (ltb (stop_of s) (length s)) (Refused (BadRecord (stop_of s)))
+    cond (length_fails s) (Err Length)
+    (cond (not (is_version (get_or s 2 0))) (Err Version)
+    (cond (ltb (stop_of s) (length s)) (Err (BadRecord (stop_of s)))
     (check_records (records_of s))))

@@ -1,9 +1,7 @@
 -- The records of a sheet, one after the other, and where reading them stops.
-use Rattle.std.specs.Prelude.{ℕ, zero, suc, List, [], ◌∷◌}
+use Rattle.std.specs.Prelude.{ℕ, zero, suc, List, [], ◌∷◌, Err, Ok, Result}
 use Rattle.sheet.specs.declared.Record.{Record}
 use Rattle.sheet.specs.declared.Cursor.{Cursor}
-use Rattle.sheet.specs.declared.Read.{Read}
-use Rattle.sheet.specs.declared.Read.TheVariants.{Found, Refused}
 use Rattle.sheet.specs.Table.{read_at}
 
 -- the records that were read, and the offset at which no record could be read
@@ -14,9 +12,9 @@ pub record Reading : Type 0 where
 abbrev pub first : Record → Reading → Reading
 first r rest = record { records = r ∷ rest.records; stop = rest.stop }
 
-abbrev pub on_read : Read → (Cursor → Reading) → Reading
-on_read (Found r next) rest = first r (rest next)
-on_read (Refused at) rest = record { records = []; stop = at }
+abbrev pub on_read : Result (Record × Cursor) ℕ → (Cursor → Reading) → Reading
+on_read (Ok (r, next)) rest = first r (rest next)
+on_read (Err at) rest = record { records = []; stop = at }
 
 -- what is read from `at` on, if at most `left` records may still follow
 unfoldable pub read_from : ℕ → List ℕ → ℕ → Reading

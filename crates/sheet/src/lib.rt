@@ -34,25 +34,11 @@ pub enum Record {
     Complement(u8),
 }
 
-// The record of a row of the table of kinds, or Unknown if no row matches.
-#[derive(Clone, Copy)]
-pub enum Row {
-    Known(Record),
-    Unknown,
-}
-
 // Where the next record starts, and how many records may still follow.
 #[derive(Clone, Copy)]
 pub struct Cursor {
     pub at: usize,
     pub left: usize,
-}
-
-// What is read at a cursor: a record and the cursor past it, or a refusal with its byte offset.
-#[derive(Clone, Copy)]
-pub enum Read {
-    Found(Record, Cursor),
-    Refused(usize),
 }
 
 // The sort of a record: kinds 1 to 8 are arithmetic, 16 to 19 logical. A missing record is neither.

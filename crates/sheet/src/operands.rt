@@ -5,8 +5,8 @@ ghost use Rattle.sheet.specs.Records.{records_of};
 ghost use Rattle.sheet.specs.Operands.{sort_of, asked_of, first_of, second_of, suits, are_met};
 ghost use Rattle.sheet.specs.Check.{solid_of, check_records};
 
-use crate::{Cursor, Read, Record, Sort};
-use replies::{Refusal, Reply};
+use crate::{Cursor, Record, Sort};
+use replies::Refusal;
 
 impl Record {
     pub fn sort(self) -> Sort
@@ -121,18 +121,18 @@ fn met(asked: Sort, first: Sort, second: Sort) -> bool
 }
 
 // The last record must be logical and is the solid; n is how many records there are.
-fn solid(last: Sort, n: usize) -> Reply
+fn solid(last: Sort, n: usize) -> Result<usize, Refusal>
     ensures { result ≡ solid_of last n }
 {
     match last {
-        Sort::Neither => Reply::Refused(Refusal::Solid(n)),
-        Sort::Arithmetic => Reply::Refused(Refusal::Solid(n)),
-        Sort::Logical => Reply::Done(n),
+        Sort::Neither => Err(Refusal::Solid(n)),
+        Sort::Arithmetic => Err(Refusal::Solid(n)),
+        Sort::Logical => Ok(n),
     }
 }
 
 // Replies 4 and 5: each record's operands are earlier records of the right sort, and the last record is logical.
-pub fn check_records(s: &[u8]) -> Reply
+pub fn check_records(s: &[u8]) -> Result<usize, Refusal>
     ensures { result ≡ check_records (records_of s.now) }
 {
     let mut sorts = [Sort::Neither; 256];
@@ -140,13 +140,13 @@ pub fn check_records(s: &[u8]) -> Reply
     let mut n = 0;
     let mut c = Cursor::start();
     loop {
-        let Read::Found(r, next) = c.read(s) else {
+        let Ok((r, next)) = c.read(s) else {
             return solid(last, n);
         };
         let first = sorts[r.first() as usize];
         let second = sorts[r.second() as usize];
         if !met(r.asked(), first, second) {
-            return Reply::Refused(Refusal::Operand(n));
+            return Err(Refusal::Operand(n));
         }
         last = r.sort();
         sorts[n] = last;

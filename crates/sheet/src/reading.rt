@@ -1,10 +1,10 @@
 // Reading records one after the other.
 
 ghost use Rattle.std.specs.Prelude.{◌≡◌};
-ghost use Rattle.sheet.specs.Table.{read_at, reached_of};
+ghost use Rattle.sheet.specs.Table.{read_at};
 ghost use Rattle.sheet.specs.Records.{start, stop_of};
 
-use crate::{Cursor, Read, Row, table};
+use crate::{Cursor, Record, table};
 
 impl Cursor {
     // The cursor at the first record of a sheet.
@@ -14,41 +14,27 @@ impl Cursor {
         Cursor { at: 3, left: 256 }
     }
 
-    pub fn read(self, s: &[u8]) -> Read
+    pub fn read(self, s: &[u8]) -> Result<(Record, Cursor), usize>
         ensures { result ≡ read_at s.now self }
     {
         let at = self.at;
         let left = self.left;
         if left == 0 {
-            return Read::Refused(at);
+            return Err(at);
         }
         if s.len() <= at {
-            return Read::Refused(at);
+            return Err(at);
         }
         let size = s[at] as usize;
         if s.len() - at <= size {
-            return Read::Refused(at);
+            return Err(at);
         }
-        let Row::Known(r) = table::row_at(s, at, size) else {
-            return Read::Refused(at);
-        };
+        let r = table::row_at(s, at, size).ok_or(at)?;
         let next = Cursor {
             at: at + 1 + size,
             left: left - 1,
         };
-        Read::Found(r, next)
-    }
-}
-
-impl Read {
-    // The offset reached after this read: past the record, or at the refused one.
-    fn reached(self) -> usize
-        ensures { result ≡ reached_of self }
-    {
-        match self {
-            Read::Found(_, next) => next.at,
-            Read::Refused(at) => at,
-        }
+        Ok((r, next))
     }
 }
 
@@ -58,10 +44,9 @@ pub fn stop(s: &[u8]) -> usize
 {
     let mut c = Cursor::start();
     loop {
-        let r = c.read(s);
-        let Read::Found(_, next) = r else {
-            return r.reached();
-        };
-        c = next;
+        match c.read(s) {
+            Ok((_, next)) => c = next,
+            Err(at) => return at,
+        }
     }
 }

@@ -4,7 +4,7 @@ ghost use Rattle.std.specs.Prelude.{◌≡◌, ◌+◌, ◌<◌, pos, length, ge
 ghost use Rattle.sheet.specs.Table.{comparison_of, row_of, row_at};
 ghost use Rattle.sheet.specs.declared.Comparison.TheVariants.{AtMost};
 
-use crate::{Comparison, Record, Row};
+use crate::{Comparison, Record};
 
 impl Comparison {
     // How the faces of a sheet of this version compare.
@@ -18,59 +18,59 @@ impl Comparison {
     }
 }
 
-fn no_operand(kind: u8) -> Row
+fn no_operand(kind: u8) -> Option<Record>
     ensures { result ≡ row_of AtMost 1 kind 0 0 (pos 0) }
 {
     if kind == 2 {
-        return Row::Known(Record::X);
+        return Some(Record::X);
     }
     if kind == 3 {
-        return Row::Known(Record::Y);
+        return Some(Record::Y);
     }
     if kind == 4 {
-        return Row::Known(Record::Z);
+        return Some(Record::Z);
     }
-    Row::Unknown
+    None
 }
 
-fn one_operand(by: Comparison, kind: u8, a: u8) -> Row
+fn one_operand(by: Comparison, kind: u8, a: u8) -> Option<Record>
     ensures { result ≡ row_of by 2 kind a 0 (pos 0) }
 {
     if kind == 8 {
-        return Row::Known(Record::Square(a));
+        return Some(Record::Square(a));
     }
     if kind == 16 {
-        return Row::Known(Record::Face(by, a));
+        return Some(Record::Face(by, a));
     }
     if kind == 19 {
-        return Row::Known(Record::Complement(a));
+        return Some(Record::Complement(a));
     }
-    Row::Unknown
+    None
 }
 
-fn two_operands(kind: u8, a: u8, b: u8) -> Row
+fn two_operands(kind: u8, a: u8, b: u8) -> Option<Record>
     ensures { result ≡ row_of AtMost 3 kind a b (pos 0) }
 {
     if kind == 5 {
-        return Row::Known(Record::Sum(a, b));
+        return Some(Record::Sum(a, b));
     }
     if kind == 6 {
-        return Row::Known(Record::Difference(a, b));
+        return Some(Record::Difference(a, b));
     }
     if kind == 7 {
-        return Row::Known(Record::Product(a, b));
+        return Some(Record::Product(a, b));
     }
     if kind == 17 {
-        return Row::Known(Record::Both(a, b));
+        return Some(Record::Both(a, b));
     }
     if kind == 18 {
-        return Row::Known(Record::Either(a, b));
+        return Some(Record::Either(a, b));
     }
-    Row::Unknown
+    None
 }
 
 // The row that matches the record whose count byte, `size`, is at `at`.
-pub fn row_at(s: &[u8], at: usize, size: usize) -> Row
+pub fn row_at(s: &[u8], at: usize, size: usize) -> Option<Record>
     requires fact_1 { size ≡ get_or s.now at 0 }
     requires fact_2 { at + size < length s.now }
     ensures { result ≡ row_at s.now at }
@@ -86,8 +86,8 @@ pub fn row_at(s: &[u8], at: usize, size: usize) -> Row
     }
     if size == 5 {
         if s[at + 1] == 1 {
-            return Row::Known(Record::Constant(bigendian::i32_at(s, at + 2)));
+            return Some(Record::Constant(bigendian::i32_at(s, at + 2)));
         }
     }
-    Row::Unknown
+    None
 }

@@ -3,7 +3,7 @@
 #![tactic(auto)]
 
 fn main(rt: HostRuntime) {
-    let mut input = [0u8; 65536];
-    let n = buffers::read_full(&mut rt.stdin(), &mut input);
-    build_lines::answer_all(&rt, &input[..n]);
+    vectors::with_input::<65536, _, _>(&mut rt.stdin(), |input| {
+        build_lines::answer_all(&rt, input);
+    });
 }

@@ -1,4 +1,5 @@
 -- The two loops that work a tape out: what is left, worked out from here, gives what the whole gives.
+use Rattle.std.specs.Prelude.{Err, Ok, Result}
 use mathlib.Core.Path.{◌≡◌, refl, sym, ap, ◌∙◌}
 use mathlib.Core.Bool.{Bool, true, false}
 use mathlib.Core.List.{List, [], ◌∷◌, map}
@@ -13,8 +14,6 @@ use mir.Syntax.{w64}
 use mir.Val.{to_z, of_z}
 use Rattle.integers.proofs.Order.{by-test}
 use Rattle.interval.specs.declared.Interval.{Interval}
-use Rattle.interval.specs.declared.Bounded.{Bounded}
-use Rattle.interval.specs.declared.Bounded.TheVariants.{Within, Past}
 use Rattle.interval.specs.Rules.{from}
 use Rattle.interval.specs.Limit.{SmallEnds, bounded_of}
 use Rattle.interval.proofs.Facts.{ends-within, bounded-within, within-is}
@@ -82,8 +81,8 @@ module _ (tape : List ℕ) (from to : ℕ) (q : Cube) (low₀ high₀ : List ℤ
       smalls = rw cut at k.small
 
       -- so the loop does not return early
-      pub bounding-never : (b : Bounded) → b ≡ bounded_of made → (end : End) → b ≡ Past end → Filled q (words_in tape from to) low₀ high₀ low high
-      bounding-never b e end p = let z : Within made ≡ Past end = bounded-within made (ends-within made smalls.0) ∙ sym e ∙ p in let y : ◌≡◌ {A = ℕ} 0 1 = cc in absurd (omega arith)
+      pub bounding-never : (b : Result Interval End) → b ≡ bounded_of made → (end : End) → b ≡ Err end → Filled q (words_in tape from to) low₀ high₀ low high
+      bounding-never b e end p = let z : Ok made ≡ Err end = bounded-within made (ends-within made smalls.0) ∙ sym e ∙ p in let y : ◌≡◌ {A = ℕ} 0 1 = cc in absurd (omega arith)
 
       module _ (l h : ℤ) (v : Interval) (is-v : v ≡ made) (is-l : l ≡ v.low) (is-h : h ≡ v.high) where
         stored : held_at (set low (w % 256) l) (set high (w % 256) h) ≡ put (held_at low high) (w % 256) made
@@ -109,7 +108,7 @@ module _ (tape : List ℕ) (from to : ℕ) (q : Cube) (low₀ high₀ : List ℤ
             }
 
     -- the same as the loop has it: the word is read from the tape, and the ends come back from their bits
-    pub bounding-again : i < to → (b : Bounded) (v : Interval) → b ≡ bounded_of (bounds_word q (held_at low high) (word_in (get_or tape i 0))) → b ≡ Within v
+    pub bounding-again : i < to → (b : Result Interval End) (v : Interval) → b ≡ bounded_of (bounds_word q (held_at low high) (word_in (get_or tape i 0))) → b ≡ Ok v
         → Bounding (set low (get_or tape i 0 % 256) (to_z w64 (of_z w64 v.low))) (set high (get_or tape i 0 % 256) (to_z w64 (of_z w64 v.high))) (i + 1)
     bounding-again more b v e f =
         let w = get_or tape i 0 in

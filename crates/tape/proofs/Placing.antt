@@ -1,4 +1,5 @@
 -- The entries of constants are put in place, as the loop meets it; then the entries of all records stand as they are lent.
+use Rattle.std.specs.Prelude.{Some}
 use mathlib.Core.Path.{◌≡◌, refl, sym, ap, ◌∙◌}
 use mathlib.Core.Bool.{true, false, true≢false}
 use mathlib.Core.List.{List}
@@ -17,7 +18,6 @@ use Rattle.interval.specs.Rules.{only}
 use Rattle.interval.proofs.Limit.{limit-back}
 use Rattle.sheet.specs.declared.Record.{Record}
 use Rattle.sheet.specs.declared.Record.TheVariants.{Constant, X, Y, Z, Sum, Difference, Product, Square, Face, Both, Either, Complement}
-use Rattle.sheet.specs.declared.Row.TheVariants.{Known}
 use Rattle.sheet.specs.Table.{row_at}
 use Rattle.sheet.specs.Records.{records_of}
 use Rattle.sheet.specs.Operands.{sort_of}
@@ -104,7 +104,7 @@ module _ (s offsets : List ℕ) (count : ℕ) (low high : List ℤ) (classes : L
       pub placing-class : n < length classes
       placing-class = omega (arith, few, p.long)
 
-      pub placing-next : (r : Record) → row_at s (get_or offsets n 0) ≡ Known r → (c : ℤ) → (c ≡ start_of r) × (nat_abs c ≤ 2 ^ 31)
+      pub placing-next : (r : Record) → row_at s (get_or offsets n 0) ≡ Some r → (c : ℤ) → (c ≡ start_of r) × (nat_abs c ≤ 2 ^ 31)
           → Placing s offsets count (set low n (to_z w64 (of_z w64 c))) (set high n (to_z w64 (of_z w64 c))) (set classes n 4) (n + 1)
       placing-next r row c e =
           let is : c ≡ start_of (get_or (records_of s) n X) = e.0 ∙ ap start_of (sym (walking-record s offsets count n p.walk left r row)) in

@@ -1,4 +1,5 @@
 -- Words are put one after the other, as the loop meets it.
+use Rattle.std.specs.Prelude.{Some}
 use mathlib.Core.Path.{◌≡◌, refl, sym, ap, ap₂, ◌∙◌}
 use mathlib.Core.Bool.{Bool, true, cond}
 use mathlib.Core.List.{List, [], ◌∷◌, ◌++◌, map, map-append, append-nil}
@@ -11,7 +12,6 @@ use lib.ListN.{length, get_or, take, drop, set, length-set, length-append}
 use lib.Seq.{slice, slice_empty, take-set-le, take-suc-set, drop-append-le, length-take-le}
 use Rattle.integers.proofs.Order.{by-test}
 use Rattle.sheet.specs.declared.Record.{Record}
-use Rattle.sheet.specs.declared.Row.TheVariants.{Known}
 use Rattle.sheet.specs.Table.{row_at}
 use Rattle.sheet.specs.Records.{records_of}
 use Rattle.records.specs.Offsets.{Offsets}
@@ -88,7 +88,7 @@ module _ (s offsets : List ℕ) (count : ℕ) (tape₀ : List ℕ) (from : ℕ) 
     putting-end h = rw (walking-end s offsets count n p.walk h) at p.done
 
     -- record n is r, and w is its word
-    module _ (left : n < count) (r : Record) (row : row_at s (get_or offsets n 0) ≡ Known r) (w : ℕ) (is : Packs w n r) (b : Bool) (t : b ≡ is_listed logical (w / 16777216)) where
+    module _ (left : n < count) (r : Record) (row : row_at s (get_or offsets n 0) ≡ Some r) (w : ℕ) (is : Packs w n r) (b : Bool) (t : b ≡ is_listed logical (w / 16777216)) where
       own : own_word rs n ≡ word n r
       own = ap (word n) (walking-record s offsets count n p.walk left r row)
 

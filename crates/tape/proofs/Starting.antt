@@ -1,4 +1,5 @@
 -- The tape of a good sheet's own records is what is carried to the root.
+use Rattle.std.specs.Prelude.{Ok}
 use mathlib.Core.Path.{◌≡◌, refl, sym, ap, ap₂, ◌∙◌}
 use mathlib.Core.Bool.{Bool, true, false, cond, not, true≢false}
 use mathlib.Core.List.{List, [], ◌∷◌, ◌++◌, map, map-append}
@@ -8,7 +9,6 @@ use lib.IntN.{ℤ}
 use lib.ListN.{length, get_or, drop, length-append}
 use lib.Seq.{slice}
 use Rattle.integers.proofs.Order.{by-test}
-use Rattle.replies.specs.declared.Reply.TheVariants.{Done}
 use Rattle.sheet.specs.declared.Record.{Record}
 use Rattle.sheet.specs.declared.Record.TheVariants.{X}
 use Rattle.sheet.specs.declared.Sort.TheVariants.{Logical}
@@ -88,7 +88,7 @@ last-logical (r ∷ rs) e h =
     ap (λ (k : ℕ). is_logical (sort_of (get_or (r ∷ rs) k X))) n ∙ ap is_logical (sym (last-is r rs) ∙ e)
 
 -- ---- a good sheet
-module _ (s : List ℕ) (count : ℕ) (good : check_of s ≡ Done count) where
+module _ (s : List ℕ) (count : ℕ) (good : check_of s ≡ Ok count) where
   abbrev rs : List Record
   rs = records_of s
 

@@ -1,4 +1,5 @@
 -- What a word makes of bounds and states: each arm of the two functions that work one word out.
+use Rattle.std.specs.Prelude.{Result}
 use mathlib.Core.Path.{◌≡◌, ◌∙◌}
 use mathlib.Core.Bool.{true, false}
 use mathlib.Core.List.{List}
@@ -7,7 +8,6 @@ use native.Mathlib.Omega.{arith}
 use borrow.Author.Tests.{eq-eqb, ne_eqb}
 use lib.IntN.{ℤ}
 use Rattle.interval.specs.declared.Interval.{Interval}
-use Rattle.interval.specs.declared.Bounded.{Bounded}
 use Rattle.interval.specs.Rules.{sum, difference, product, square}
 use Rattle.interval.specs.Limit.{bounded_of}
 use Rattle.sheet.specs.declared.Comparison.{Comparison}
@@ -21,6 +21,7 @@ use Rattle.colour.proofs.Arms as arms
 use Rattle.tape.specs.Memory.{kind_in, number_in, first_in, second_in, comparison_by, record_in, word_in, state_in}
 use Rattle.tape.specs.Working.{OfSort, bounds_word, state_word}
 use Rattle.tape.proofs.ByKind.{record-x, record-y, record-z, record-sum, record-difference, record-product, record-square, record-face, record-both, record-either, record-complement}
+use Rattle.replies.specs.declared.End.{End}
 
 -- ---- the comparison of a face
 pub strict-kind : (k : ℕ) → k ≡ 15 → LessThan ≡ comparison_by k
@@ -33,7 +34,7 @@ plain-kind k n = rw (ne_eqb k 15 n)
 
 -- ---- bounds
 module _ (low high : List ℤ) (q : Cube) (w : ℕ) where
-  abbrev asked : Bounded
+  abbrev asked : Result Interval End
   asked = bounded_of (bounds_word q (held_at low high) (word_in w))
 
   abbrev a : ℕ
@@ -43,7 +44,7 @@ module _ (low high : List ℤ) (q : Cube) (w : ℕ) where
   b = second_in w
 
   -- a coordinate
-  module _ (v : Bounded) where
+  module _ (v : Result Interval End) where
     pub x-arm : kind_in w ≡ 2 → v ≡ bounded_of (across q.x q.side) → v ≡ asked
     unfolding bounds_word bounds_of
     x-arm k e = rw (record-x (kind_in w) a b k) e
@@ -56,7 +57,7 @@ module _ (low high : List ℤ) (q : Cube) (w : ℕ) where
     unfolding bounds_word bounds_of
     z-arm k e = rw (record-z (kind_in w) a b k) e
 
-  module _ (i : Interval) (v : Bounded) (first : i ≡ held_at low high a) where
+  module _ (i : Interval) (v : Result Interval End) (first : i ≡ held_at low high a) where
     module _ (j : Interval) (second : j ≡ held_at low high b) where
       pub sum-arm : kind_in w ≡ 5 → v ≡ bounded_of (sum i j) → v ≡ asked
       unfolding bounds_word

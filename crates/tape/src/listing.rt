@@ -1,7 +1,6 @@
 // The tape of a sheet's own records, which is what is carried to the root, and the places of their entries.
 
-ghost use Rattle.std.specs.Prelude.{◌≡◌, ◌+◌, ◌≤◌, ◌^◌, nat_abs, length};
-ghost use Rattle.replies.specs.declared.Reply.TheVariants.{Done};
+ghost use Rattle.std.specs.Prelude.{◌≡◌, ◌+◌, ◌≤◌, ◌^◌, nat_abs, length, Ok};
 ghost use Rattle.sheet.specs.Records.{records_of};
 ghost use Rattle.sheet.specs.Check.{check_of};
 ghost use Rattle.records.specs.Offsets.{Offsets};
@@ -146,7 +145,7 @@ pub fn start(
     faces: &[u8],
 ) -> Tape
     requires fact_1 { Offsets offsets.now s.now }
-    requires fact_2 { check_of s.now ≡ Done count }
+    requires fact_2 { check_of s.now ≡ Ok count }
     requires fact_3 { 256 ≤ length tape.old }
     requires fact_4 { Places low.old high.old classes.old faces.now }
     ensures { Lent (records_of s.now) low.new high.new classes.new faces.now × Starts (records_of s.now) tape.new result }

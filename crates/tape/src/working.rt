@@ -13,11 +13,12 @@ ghost use Rattle.tape.specs.Lent.{Lent, Carries, Stand};
 use crate::Tape;
 use colour::State;
 use cube::Cube;
-use interval::Bounded;
+use interval::Interval;
+use replies::End;
 use sheet::Comparison;
 
 // The bounds that a word of an arithmetic record gives.
-fn bounds_by<'a>(w: u32, q: Cube, low: &'a [i64], high: &'a [i64]) -> Bounded
+fn bounds_by<'a>(w: u32, q: Cube, low: &'a [i64], high: &'a [i64]) -> Result<Interval, End>
     requires fact_1 { OfSort false (record_in w) }
     requires fact_2 { Near 0 q }
     requires fact_3 { Held low.now high.now }
@@ -26,9 +27,9 @@ fn bounds_by<'a>(w: u32, q: Cube, low: &'a [i64], high: &'a [i64]) -> Bounded
     let a = (w / 256 % 256) as u8;
     let b = (w / 65536 % 256) as u8;
     match w / 16777216 {
-        2 => Bounded::Within(colour::across(q.x, q.side)),
-        3 => Bounded::Within(colour::across(q.y, q.side)),
-        4 => Bounded::Within(colour::across(q.z, q.side)),
+        2 => Ok(colour::across(q.x, q.side)),
+        3 => Ok(colour::across(q.y, q.side)),
+        4 => Ok(colour::across(q.z, q.side)),
         5 => colour::held_at(low, high, a).sum(colour::held_at(low, high, b)),
         6 => colour::held_at(low, high, a).difference(colour::held_at(low, high, b)),
         7 => colour::held_at(low, high, a).product(colour::held_at(low, high, b)),
@@ -48,7 +49,7 @@ fn fill_bounds(tape: &[u32], from: usize, to: usize, q: Cube, low: &mut [i64], h
     while i < to {
         let w = tape[i];
         let n = (w % 256) as usize;
-        let Bounded::Within(v) = bounds_by(w, q, low, high) else {
+        let Ok(v) = bounds_by(w, q, low, high) else {
             return;
         };
         let least = v.low;

@@ -53,3 +53,7 @@ pub decimal-length : (k n : ℕ) → n < 10 ^ suc k → length (decimal_of n) �
 unfolding decimal_of
 decimal-length k n h =
     omega (arith, length-append (digits_of n (n / 10)) (digit (n % 10) ∷ []), few-digits k n (n / 10) (omega arith))
+
+pub decimal-some : (n : ℕ) → 0 < length (decimal_of n)
+unfolding decimal_of
+decimal-some n = omega (arith, length-append (digits_of n (n / 10)) (digit (n % 10) ∷ []))

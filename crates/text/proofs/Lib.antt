@@ -1,4 +1,5 @@
 pub mod Digits
 pub mod Signs
 pub mod Storing
+pub mod Lines
 pub mod Rows

@@ -6,24 +6,23 @@ use Prim.Native.Nat.{ℕ, ◌+◌, ◌/◌, ◌%◌, ◌≤◌, ◌<◌}
 use native.Mathlib.Omega.{arith}
 use lib.IntN.{ℤ, pos, nat_abs}
 use lib.ListN.{length, length-append, set, length-set}
-use lib.Seq.{length-sets, append_snoc}
+use lib.Seq.{length-sets}
 use lib.Signed.{lt_z}
 use Rattle.integers.proofs.Stores.{sets-append}
 use mir.Syntax.{w64}
 use mir.Val.{SFits, to_z, of_z}
-use mir.Facts.{to_z-of_z}
 use Rattle.buffers.specs.Counts.{IsPrefixLen}
 use Rattle.buffers.proofs.Counting.{prefix_len_of_le}
-use Rattle.text.specs.Text.{digit, decimal_of, signed_text, line_of, Puts}
+use Rattle.text.specs.Text.{digit, decimal_of, signed_text, Puts}
 use Rattle.text.proofs.Digits.{one-digit, more-digits}
-use Rattle.text.proofs.Signs.{less_one, plain-text, less-text, signed-length}
+use Rattle.text.proofs.Signs.{plain-text, less-text, signed-length}
 
 -- ---- one byte
-byte_put : (v at : ℕ) (d : List ℕ) → Puts (v ∷ []) at d (at + 1) (set d at v)
+pub byte_put : (v at : ℕ) (d : List ℕ) → Puts (v ∷ []) at d (at + 1) (set d at v)
 byte_put v at d = record { ends = refl; bytes = refl }
 
 -- two texts, the second starting where the first ends
-both-put : (vs ws : List ℕ) (at r q : ℕ) (d o p : List ℕ) → Puts vs at d r o → Puts ws r o q p → Puts (vs ++ ws) at d q p
+pub both-put : (vs ws : List ℕ) (at r q : ℕ) (d o p : List ℕ) → Puts vs at d r o → Puts ws r o q p → Puts (vs ++ ws) at d q p
 both-put vs ws at r q d o p h k = record { ends = omega (arith, length-append vs ws, h, k); bytes = k.bytes ∙ rw h.bytes (sets-append d at r vs ws h.ends) }
 
 -- ---- a number's digits, from its first to its last
@@ -46,44 +45,17 @@ last-put n at r d o h p = rw (more-digits n h) (both-put _ _ _ _ _ _ _ _ p (byte
 pub number_counts : (n : ℤ) (at r : ℕ) (d o : List ℕ) → SFits w64 n → at + 20 ≤ length d → Puts (signed_text n) at d r o → IsPrefixLen r o
 number_counts n at r d o f l p = prefix_len_of_le r o (omega (arith, signed-length n f, p, ap length p.bytes ∙ length-sets d at (signed_text n)))
 
-module _ (n : ℤ) (at : ℕ) (d : List ℕ) (f : SFits w64 n) where
+module _ (n : ℤ) (at : ℕ) (d : List ℕ) (m : ℕ) (f : SFits w64 n) (e : m ≡ nat_abs (to_z w64 (of_z w64 n))) where
   module _ (t : lt_z (to_z w64 (of_z w64 n)) (pos 0) ≡ false) where
-    pub plain-room : at + 20 ≤ length d → at + length (decimal_of (nat_abs (to_z w64 (of_z w64 n)))) ≤ length d
-    plain-room l = omega (arith, signed-length n f, ap length (plain-text n f t))
+    pub plain-room : at + 20 ≤ length d → at + length (decimal_of m) ≤ length d
+    plain-room l = omega (arith, signed-length n f, ap length (plain-text n m f e t))
 
-    pub plain-put : (r : ℕ) (o : List ℕ) → Puts (decimal_of (nat_abs (to_z w64 (of_z w64 n)))) at d r o → Puts (signed_text n) at d r o
-    plain-put r o p = rw (plain-text n f t) p
+    pub plain-put : (r : ℕ) (o : List ℕ) → Puts (decimal_of m) at d r o → Puts (signed_text n) at d r o
+    plain-put r o p = rw (plain-text n m f e t) p
 
   module _ (t : lt_z (to_z w64 (of_z w64 n)) (pos 0) ≡ true) where
-    pub sign-room : at + 20 ≤ length d → (v : ℕ) → at + 1 + length (decimal_of (nat_abs (less_one n) + 1)) ≤ length (set d at v)
-    sign-room l v = omega (arith, signed-length n f, ap length (less-text n f t), length-set d at v)
+    pub sign-room : at + 20 ≤ length d → (v : ℕ) → at + 1 + length (decimal_of m) ≤ length (set d at v)
+    sign-room l v = omega (arith, signed-length n f, ap length (less-text n m f e t), length-set d at v)
 
-    pub sign-put : (r : ℕ) (o : List ℕ) → Puts (decimal_of (nat_abs (less_one n) + 1)) (at + 1) (set d at 45) r o → Puts (signed_text n) at d r o
-    sign-put r o p = rw (less-text n f t) (both-put _ _ _ _ _ _ _ _ (byte_put 45 at d) p)
-
--- ---- a number and the byte that ends it, and lines of them
-module _ (n : ℤ) (at r : ℕ) (d o : List ℕ) (f : SFits w64 n) where
-  module _ (p : Puts (signed_text (to_z w64 (of_z w64 n))) at d r o) where
-    numbered : Puts (signed_text n) at d r o
-    numbered = rw (to_z-of_z f) at p
-
-    pub end-room : at + 21 ≤ length d → r < length o
-    end-room l = omega (arith, signed-length n f, numbered, ap length numbered.bytes ∙ length-sets d at (signed_text n))
-
-    pub end-put : (e : ℕ) → Puts (signed_text n ++ (e ∷ [])) at d (r + 1) (set o r e)
-    end-put e = both-put _ _ _ _ _ _ _ _ numbered (byte_put e r o)
-
-    pub end-few : r + 1 ≤ at + 21
-    end-few = omega (arith, signed-length n f, numbered)
-
-  pub last-field : Puts (signed_text (to_z w64 (of_z w64 n)) ++ (10 ∷ [])) at d r o → Puts (line_of (n ∷ [])) at d r o
-  unfolding line_of
-  last-field p = rw (to_z-of_z f) at p
-
-  pub field : (m : ℤ) (ns : List ℤ) (q : ℕ) (u : List ℕ) → Puts (signed_text (to_z w64 (of_z w64 n)) ++ (32 ∷ [])) at d r o → Puts (line_of (m ∷ ns)) r o q u → Puts (line_of (n ∷ m ∷ ns)) at d q u
-  unfolding line_of
-  field m ns q u p k = rw (← append_snoc (signed_text n) 32 (line_of (m ∷ ns))) (both-put _ _ _ _ _ _ _ _ (rw (to_z-of_z f) at p) k)
-
--- writing the sign keeps the length
-pub sign_kept : (d o : List ℕ) (at v : ℕ) → length o ≡ length (set d at v) → length o ≡ length d
-sign_kept d o at v e = e ∙ length-set d at v
+    pub sign-put : (r : ℕ) (o : List ℕ) → Puts (decimal_of m) (at + 1) (set d at 45) r o → Puts (signed_text n) at d r o
+    sign-put r o p = rw (less-text n m f e t) (both-put _ _ _ _ _ _ _ _ (byte_put 45 at d) p)

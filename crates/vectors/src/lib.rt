@@ -3,14 +3,48 @@
 
 #![tactic(auto)]
 
-ghost use Rattle.std.specs.Prelude.{◌≤◌, ◌<◌, length};
+ghost use Rattle.std.specs.Prelude.{ℕ, ◌^◌, ◌≤◌, ◌<◌, List, length};
+ghost use Rattle.std.specs.Fn.{FnOnceReturnsAt};
+ghost use Rattle.std.specs.Io.KnownBytes.{Consumes};
 ghost use Rattle.buffers.specs.Counts.{IsPrefixLen};
+
+use std::io::Read;
+
+// The number of bytes of the longest vector; of a longer one, the rest is dropped.
+const LONGEST: usize = 640;
 
 // Of a line that was read: where the next line begins, and the number of bytes in its vector.
 #[derive(Clone, Copy)]
 pub struct Line {
     pub next: usize,
     pub size: usize,
+}
+
+// Reads an input of at most N bytes, and hands what was read to `answer`.
+pub fn with_input<const N: usize, R: Read, F: FnOnce(&[u8])>(reader: &mut R, answer: F)
+    requires size { N < 2 ^ 63 }
+    requires callable { F.IsAlwaysCallable answer }
+    ensures { (bytes : List ℕ)
+        × (length bytes ≤ N)
+        × Consumes (R.remaining reader.old) (R.remaining reader.new) bytes
+        × FnOnceReturnsAt F.FnOnce answer bytes tt }
+{
+    let mut input = [0u8; N];
+    let n = buffers::read_full(reader, &mut input);
+    answer(&input[..n]);
+}
+
+// Writes the label of each line of an input, and hands the bytes of its vector to `answer`, which writes the rest of the line.
+pub fn answer_all<F: Fn(&[u8])>(rt: &impl Print, input: &[u8], answer: F)
+    requires { F.IsAlwaysCallable answer }
+{
+    let mut vector = [0u8; LONGEST];
+    let mut at = 0;
+    while at < input.len() {
+        let line = read_line(rt, input, at, &mut vector);
+        answer(&vector[..line.size]);
+        at = line.next;
+    }
 }
 
 // Writes the label of the line at `at` with its colon, and stores its vector at the start of `vector`. Bytes after the returned size may be left over from an earlier line.
@@ -31,11 +65,10 @@ fn past(input: &[u8], from: usize, mark: u8) -> usize
     ensures lower_bound { from ≤ result }
     ensures upper_bound { result ≤ length input.now }
 {
-    let mut end = from;
-    while end < input.len() && input[end - 1] != mark {
-        end += 1;
-    }
-    end
+    input[from - 1..]
+        .iter()
+        .position(|c| *c == mark)
+        .map_or(input.len(), |i| from + i)
 }
 
 // Stores the bytes that the digits from `from` to the end of the line spell at the start of `vector`, and drops those that do not fit.

@@ -1,7 +1,6 @@
 -- What a caller in C or Rust gets: the code and the number of the reply, and the bytes of the lent buffer.
-use Rattle.std.specs.Prelude.{ℕ, List}
-use Rattle.replies.specs.declared.Reply.{Reply}
-use Rattle.replies.specs.declared.Reply.TheVariants.{Done, Refused}
+use Rattle.std.specs.Prelude.{ℕ, List, Err, Ok}
+use Rattle.replies.specs.Table.{Reply}
 use Rattle.replies.specs.Table.{code_of, number_of}
 use Rattle.sheet.specs.Check.{check_of}
 use Rattle.cube.specs.declared.Point.{Point}
@@ -17,8 +16,8 @@ reply code number = record { code = code; number = number }
 
 -- each reply by document 01's table
 abbrev pub by_number : Reply → ZoneReply
-by_number (Done n) = reply 0 n
-by_number (Refused why) = reply (code_of why) (number_of why)
+by_number (Ok n) = reply 0 n
+by_number (Err why) = reply (code_of why) (number_of why)
 
 -- ---- zone_check: the number of records
 unfoldable pub zone_check_of : List ℕ → ZoneReply

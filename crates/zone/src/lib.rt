@@ -5,7 +5,7 @@
 ghost use Rattle.std.specs.Prelude.{◌≡◌};
 ghost use Rattle.zone.specs.Replies.{by_number, zone_check_of, zone_outcome, zone_build_of, zone_refine_of, zone_open_of, zone_lookup_of};
 
-use replies::Reply;
+use replies::Refusal;
 
 // A reply by document 01's code and number.
 #[repr(C)]
@@ -15,27 +15,30 @@ pub struct ZoneReply {
     pub number: u64,
 }
 
-fn by_number(reply: Reply) -> ZoneReply
-    ensures { result ≡ by_number reply }
-{
-    match reply {
-        Reply::Done(n) => ZoneReply {
-            code: 0,
-            number: n as u64,
-        },
-        Reply::Refused(why) => ZoneReply {
-            code: why.code(),
-            number: why.number() as u64,
-        },
+impl From<Result<usize, Refusal>> for ZoneReply {
+    ghost from_gives = { λ reply r. r ≡ by_number reply };
+
+    fn from(reply: Result<usize, Refusal>) -> ZoneReply {
+        match reply {
+            Ok(n) => ZoneReply {
+                code: 0,
+                number: n as u64,
+            },
+            Err(why) => ZoneReply {
+                code: why.code(),
+                number: why.number() as u64,
+            },
+        }
     }
 }
 
 // Tests a zone sheet, and returns the number of its records.
 #[unsafe(no_mangle)]
+#[tactic(auto, unfolding(crate::specs::Replies::zone_check_of))]
 pub extern "C" fn zone_check(sheet: &[u8]) -> ZoneReply
     ensures { result ≡ zone_check_of sheet.now }
 {
-    by_number(sheet::check(sheet))
+    sheet::check(sheet).into()
 }
 
 // Builds the zone map of a sheet over a root at the start of `out`, and returns its length. A refusal leaves `out` unchanged.
@@ -51,23 +54,25 @@ pub extern "C" fn zone_build(
 ) -> ZoneReply
     ensures { zone_outcome result out.new ≡ zone_build_of sheet.now (record { x = x; y = y; z = z; k = k; d = d }) out.old }
 {
-    by_number(building::build(sheet, x, y, z, k, d, out))
+    building::build(sheet, x, y, z, k, d, out).into()
 }
 
 // Refines a zone map of a sheet to a depth, at the start of `out`, and returns the new map's length. A refusal leaves `out` unchanged.
 #[unsafe(no_mangle)]
+#[tactic(auto, unfolding(crate::specs::Replies::zone_refine_of))]
 pub extern "C" fn zone_refine(sheet: &[u8], map: &[u8], d: u8, out: &mut [u8]) -> ZoneReply
     ensures { zone_outcome result out.new ≡ zone_refine_of sheet.now map.now d out.old }
 {
-    by_number(refine::refine(sheet, map, d, out))
+    refine::refine(sheet, map, d, out).into()
 }
 
 // Opens a zone map, whatever its sheet is, and returns the number of its leaves.
 #[unsafe(no_mangle)]
+#[tactic(auto, unfolding(crate::specs::Replies::zone_open_of))]
 pub extern "C" fn zone_open(map: &[u8]) -> ZoneReply
     ensures { result ≡ zone_open_of map.now }
 {
-    by_number(zonemap::open(map))
+    zonemap::open(map).into()
 }
 
 // Looks a position up in a zone map. It only reads its inputs.
@@ -75,5 +80,5 @@ pub extern "C" fn zone_open(map: &[u8]) -> ZoneReply
 pub extern "C" fn zone_lookup(sheet: &[u8], map: &[u8], x: i32, y: i32, z: i32) -> ZoneReply
     ensures { result ≡ zone_lookup_of sheet.now map.now (record { x = x; y = y; z = z }) }
 {
-    by_number(lookup::lookup(sheet, map, x, y, z).numbered())
+    lookup::numbered(lookup::lookup(sheet, map, x, y, z)).into()
 }

@@ -1,10 +1,10 @@
 -- The bytes of a map: their number, and that the stores, one after another, write them.
 use mathlib.Core.Path.{◌≡◌, refl, ap, ◌∙◌}
 use mathlib.Core.List.{List, [], ◌∷◌, ◌++◌}
-use Prim.Native.Nat.{ℕ, suc, ◌+◌, ◌*◌, ◌≤◌, ◌<◌}
+use Prim.Native.Nat.{ℕ, suc, ◌+◌, ◌*◌}
 use native.Mathlib.Omega.{arith}
-use lib.ListN.{length, set, length-set, length-append}
-use lib.Seq.{sets, length-sets}
+use lib.ListN.{length, set, length-append}
+use lib.Seq.{sets}
 use Rattle.integers.proofs.Stores.{sets-append}
 use mir.Syntax.{w32}
 use mir.Val.{SFits, to_z, of_z}
@@ -62,27 +62,7 @@ module _ (r : Root) (d d₁ d₂ d₃ : List ℕ) (fx : SFits w32 r.x) (fy : SFi
       second : (u v : ℕ) → 13 ≡ 5 + length (bytes_of 4 u ++ bytes_of 4 v)
       second u v = omega (arith, length-append (bytes_of 4 u) (bytes_of 4 v), bytes-length 4 u, bytes-length 4 v)
 
--- put_header: d₁ and d₂ are the buffer after each call, whatever bytes they wrote
-module _ (d d₁ vs : List ℕ) (e : d₁ ≡ sets d 0 vs) (version : ℕ) where
-  left : length (set d₁ 4 version) ≡ length d
-  left = length-set d₁ 4 version ∙ ap length e ∙ length-sets d 0 vs
-
-  pub corner-room : 19 ≤ length d → 17 ≤ length (set d₁ 4 version)
-  corner-room h = omega (arith, left)
-
-  module _ (d₂ ws : List ℕ) (f : d₂ ≡ sets (set d₁ 4 version) 5 ws) where
-    kept : length d₂ ≡ length d
-    kept = ap length f ∙ length-sets (set d₁ 4 version) 5 ws ∙ left
-
-    pub k-room : 19 ≤ length d → 17 < length d₂
-    k-room h = omega (arith, kept)
-
-    pub d-room : 19 ≤ length d → (k : ℕ) → 18 < length (set d₂ 17 k)
-    d-room h k = rw (length-set, kept) h
-
-    pub header-kept : (k depth : ℕ) → length (set (set d₂ 17 k) 18 depth) ≡ length d
-    header-kept k depth = rw (length-set, length-set) kept
-
+-- put_header: d₁ and d₂ are the buffer after each call
 module _ (r : Root) (n : ℕ) (d d₁ d₂ : List ℕ) where
   abbrev count : List ℕ
   count = bytes_of 4 (15 + 3 * n)

@@ -4,14 +4,14 @@ use mathlib.Core.Bool.{Bool, true}
 use mathlib.Core.List.{List, [], ◌∷◌}
 use Prim.Native.Nat.{ℕ, zero, suc, ◌+◌, ◌-◌, ◌*◌, ◌/◌, ◌%◌, ◌^◌, ◌≤◌, ◌<◌}
 use native.Mathlib.Omega.{arith}
-use borrow.Author.Tests.{eqb-true, lt-ltb, le-ltb, ltb-true, ltb-false}
-use lib.Dec.{eqb, ltb}
+use borrow.Author.Tests.{lt-ltb, le-ltb, ltb-true, ltb-false}
+use Rattle.std.proofs.lemmas.Bool.Decides.{nat_tests}
+use lib.Dec.{ltb}
 use lib.ListN.{length, get_or}
 use Rattle.integers.proofs.Order.{by-test}
 use Rattle.integers.proofs.First.{none_first}
 use Rattle.cube.specs.Limits.{in_limits}
 use Rattle.zonemap.specs.declared.Leaf.{Leaf}
-use Rattle.zonemap.specs.Map.{map_version}
 use Rattle.zonemap.specs.Opening.{length_good, root_of, leaf_in, leaves_in, leaves_of, size_of, leaves_fault, header_fault, fault_of, leaf_at, offset_at}
 use Rattle.zonemap.specs.Leaves.{place_at, nowhere, Holds}
 use Rattle.zonemap.proofs.Runs.{Run, Fine, opens-run, one-fault}
@@ -62,14 +62,7 @@ found_inside named s m n k e =
 -- ---- the bytes before the leaves
 pub header-told : (s : List ℕ) → header_fault s ≡ [] → (length_good s ≡ true) × (get_or s 4 0 ≡ 1) × (in_limits (root_of s) ≡ true)
 unfolding header_fault
-header-told s e =
-    by-test (length_good s)
-    (λ t. by-test (eqb (get_or s 4 0) map_version)
-    (λ u. by-test (in_limits (root_of s))
-    (λ v. (t, eqb-true _ _ u, v))
-    (λ v. absurd (one-fault 5 (rw (t, u, v) at e))))
-    (λ u. absurd (one-fault 4 (rw (t, u) at e))))
-    (λ t. absurd (one-fault 0 (rw t at e)))
+header-told s e = (grind (arith, nat_tests), grind (arith, nat_tests), grind (arith, nat_tests))
 
 pub header-sizes : (s : List ℕ) → header_fault s ≡ [] → (19 ≤ length s) × (length s % 3 ≡ 1) × (in_limits (root_of s) ≡ true)
 header-sizes s e = let t = header-told s e in ((length-told s t.0).0, (length-told s t.0).1, t.2)

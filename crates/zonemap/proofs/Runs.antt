@@ -1,13 +1,12 @@
 -- Runs of leaves: the leaves of a map have no fault exactly if they run from 0 to 8^d, each good at its own place.
 use mathlib.Core.Path.{◌≡◌, sym, ◌∙◌}
-use mathlib.Core.Bool.{Bool, true, false, ◌&&◌, and-eq-true_iff}
+use mathlib.Core.Bool.{Bool, true, false}
 use mathlib.Core.List.{List, [], ◌∷◌, ◌++◌}
 use Prim.Native.Nat.{ℕ, zero, suc, ◌+◌, ◌*◌, ◌%◌, ◌^◌, ◌≤◌, ◌<◌}
 use native.Mathlib.Omega.{arith}
-use borrow.Author.Tests.{leb-true, eqb-true, eq-eqb, ne_eqb}
-use lib.Dec.{eqb, leb}
+use borrow.Author.Tests.{eq-eqb, ne_eqb}
+use Rattle.std.proofs.lemmas.Bool.Decides.{nat_tests}
 use lib.ListN.{length, get_or}
-use Rattle.integers.proofs.Order.{by-test}
 use Rattle.zonemap.specs.declared.Leaf.{Leaf}
 use Rattle.zonemap.specs.Opening.{size_of, level_good, face_good, place_good, leaf_good, leaves_fault}
 use Rattle.zonemap.specs.Leaves.{place_at, nowhere}
@@ -16,22 +15,16 @@ use Rattle.zonemap.specs.Leaves.{place_at, nowhere}
 module _ (d : ℕ) (l : Leaf) where
   pub level-told : level_good d l ≡ true → (l.level ≤ d) × (l.class ≤ 4) × (l.class ≡ 4 → l.level ≡ d)
   unfolding level_good
-  level-told e =
-      let t = (and-eq-true_iff (leb l.level d && leb l.class 4) _).0 e in
-      let u = (and-eq-true_iff (leb l.level d) (leb l.class 4)).0 t.0 in
-      (leb-true _ _ u.0, leb-true _ _ u.1, λ c. eqb-true _ _ (rw c at t.1))
+  level-told e = (grind (arith, nat_tests), grind (arith, nat_tests), λ c. grind (arith, nat_tests))
 
   pub place-told : (p : ℕ) → place_good d p l ≡ true → (p % size_of d l ≡ 0) × (p + size_of d l ≤ 8 ^ d)
   unfolding place_good
-  place-told p e = let t = (and-eq-true_iff (eqb (p % size_of d l) 0) (leb (p + size_of d l) (8 ^ d))).0 e in (eqb-true _ _ t.0, leb-true _ _ t.1)
+  place-told p e = (grind (arith, nat_tests), grind (arith, nat_tests))
 
 module _ (named : ℕ → Bool) (d p : ℕ) (l : Leaf) where
   pub leaf-parts : leaf_good named d p l ≡ true → (level_good d l ≡ true) × (face_good named l ≡ true) × (place_good d p l ≡ true)
   unfolding leaf_good
-  leaf-parts e =
-      let t = (and-eq-true_iff (level_good d l && face_good named l) (place_good d p l)).0 e in
-      let u = (and-eq-true_iff (level_good d l) (face_good named l)).0 t.0 in
-      (u.0, u.1, t.1)
+  leaf-parts e = (grind (arith, nat_tests), grind (arith, nat_tests), grind (arith, nat_tests))
 
   pub good-level : leaf_good named d p l ≡ true → l.level ≤ d
   good-level e = (level-told d l (leaf-parts e).0).0
@@ -103,14 +96,13 @@ Fine named d p l = leaf_good named d p l ≡ true
 
 -- a list of one fault is not empty
 pub one-fault : (at : ℕ) → ◌≡◌ {A = List ℕ} (at ∷ []) [] → ⊥
-one-fault at e = let z : ◌≡◌ {A = ℕ} 0 1 = cc in omega arith
+one-fault at e = cc
 
 module _ (named : ℕ → Bool) (d : ℕ) where
   pub opens-run : (p at : ℕ) (ls : List Leaf) → leaves_fault named d p at ls ≡ [] → Run (Fine named d) d p ls (8 ^ d)
   unfolding Run leaves_fault
-  opens-run p at [] e = by-test (eqb p (8 ^ d)) (λ t. eqb-true p (8 ^ d) t) (λ t. absurd (one-fault at (rw t at e)))
-  opens-run p at (l ∷ ls) e =
-      by-test (leaf_good named d p l) (λ t. (t, opens-run (p + size_of d l) (at + 3) ls (rw t at e))) (λ t. absurd (one-fault at (rw t at e)))
+  opens-run p at [] e = grind (arith, nat_tests)
+  opens-run p at (l ∷ ls) e = (grind (arith, nat_tests), opens-run (p + size_of d l) (at + 3) ls (grind (arith, nat_tests)))
 
   -- the first fault: the first leaf that is not good, or the end of leaves that stop short
   pub leaf-fault : (p at i : ℕ) (ls : List Leaf) → i < length ls → ((j : ℕ) → j < i → Fine named d (p + place_at d j ls) (get_or ls j nowhere)) → leaf_good named d (p + place_at d i ls) (get_or ls i nowhere) ≡ false

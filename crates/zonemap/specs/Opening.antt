@@ -1,10 +1,9 @@
 -- Opening a map: the tests of its bytes, the offset of the first fault, and the leaf that holds a place or a point.
-use Rattle.std.specs.Prelude.{ℕ, zero, suc, ◌+◌, ◌-◌, ◌*◌, ◌/◌, ◌%◌, ◌^◌, Bool, true, cond, not, ◌&&◌, ◌||◌, List, [], ◌∷◌, eqb, leb, ltb, length, get_or}
+use Rattle.std.specs.Prelude.{ℕ, zero, suc, ◌+◌, ◌-◌, ◌*◌, ◌/◌, ◌%◌, ◌^◌, Bool, true, cond, not, ◌&&◌, ◌||◌, List, [], ◌∷◌, eqb, leb, ltb, length, get_or, Err, Ok, Result}
 use Rattle.integers.specs.First.{on_first}
 use Rattle.bigendian.specs.Numbers.{unsigned_at, signed_at}
 use Rattle.replies.specs.declared.Refusal.TheVariants.{Map}
-use Rattle.replies.specs.declared.Reply.{Reply}
-use Rattle.replies.specs.declared.Reply.TheVariants.{Done, Refused}
+use Rattle.replies.specs.Table.{Reply}
 use Rattle.cube.specs.declared.Root.{Root}
 use Rattle.cube.specs.declared.Point.{Point}
 use Rattle.cube.specs.Limits.{in_limits}
@@ -12,7 +11,6 @@ use Rattle.cube.specs.Cubes.{root_cube}
 use Rattle.cube.specs.Points.{holds_point, place_of}
 use Rattle.zonemap.specs.declared.Leaf.{Leaf}
 use Rattle.zonemap.specs.declared.Found.{Found}
-use Rattle.zonemap.specs.declared.Found.TheVariants.{At, Bad}
 use Rattle.zonemap.specs.Map.{map_version, header_size}
 
 -- ---- the bytes
@@ -86,7 +84,7 @@ any_face f = true
 
 -- the number of leaves, or reply 9 without its sheet clause
 unfoldable pub open_of : List ℕ → Reply
-open_of s = on_first (fault_of any_face s) (λ at. Refused (Map at)) (Done (length (leaves_of s)))
+open_of s = on_first (fault_of any_face s) (λ at. Err (Map at)) (Ok (length (leaves_of s)))
 
 -- ---- the leaf that holds a place
 -- the number of the leaf, where the first is at place p
@@ -104,5 +102,5 @@ unfoldable pub place_or_first : Root → Point → ℕ
 place_or_first root p = cond (holds_point (root_cube root) p) (place_of root p) 0
 
 -- the root of a map that opens, with the offset of that leaf, or the first fault
-unfoldable pub found_of : (ℕ → Bool) → List ℕ → Point → Found
-found_of named s p = on_first (fault_of named s) Bad (At (root_of s) (offset_at s (place_or_first (root_of s) p)))
+unfoldable pub found_of : (ℕ → Bool) → List ℕ → Point → Result Found ℕ
+found_of named s p = on_first (fault_of named s) Err (Ok (record { root = root_of s; at = offset_at s (place_or_first (root_of s) p) }))

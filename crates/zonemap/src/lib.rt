@@ -14,32 +14,18 @@ pub use opening::{find, leaf_at, open};
 pub use walking::{leaf_count, meet};
 
 // A leaf: its level, its class and its face number.
-#[derive(Clone, Copy)]
+#[derive(Clone, Copy, Debug, PartialEq, Eq)]
 pub struct Leaf {
     pub level: u8,
     pub class: u8,
     pub face: u8,
 }
 
-// The root, read from the bytes before the leaves, or the offset of the first fault in them.
+// The root of a map that opens, with the offset of the leaf that holds a point.
 #[derive(Clone, Copy)]
-pub enum Header {
-    Good(Root),
-    Bad(usize),
-}
-
-// The offset of the leaf that holds a place, or of the first fault in the leaves.
-#[derive(Clone, Copy)]
-pub enum Scanned {
-    At(usize),
-    Bad(usize),
-}
-
-// The root of a map that opens, with the offset of the leaf that holds a point, or the offset of the map's first fault.
-#[derive(Clone, Copy)]
-pub enum Found {
-    At(Root, usize),
-    Bad(usize),
+pub struct Found {
+    pub root: Root,
+    pub at: usize,
 }
 
 // A leaf of a map that opens, the cube at its place, and the place after it.

@@ -18,10 +18,10 @@ pub fn leaf_count(map: &[u8]) -> usize
 
 // Leaf i, given its place: a walk starts with leaf 0 at place 0, and continues at `next`.
 pub fn meet(map: &[u8], root: Root, i: usize, place: u32) -> Met
-    requires fact_1 { ((named : ℕ → Bool) × (fault_of named map.now ≡ [])) }
-    requires fact_2 { root ≡ root_of map.now }
-    requires fact_3 { i < length (leaves_of map.now) }
-    requires fact_4 { place ≡ nth_place map.now i }
+    requires opens { ((named : ℕ → Bool) × (fault_of named map.now ≡ [])) }
+    requires its_root { root ≡ root_of map.now }
+    requires among { i < length (leaves_of map.now) }
+    requires its_place { place ≡ nth_place map.now i }
     ensures { result ≡ record { leaf = nth_leaf map.now i; cube = nth_cube map.now i; next = nth_place map.now (i + 1) } }
 {
     let leaf = opening::leaf_at(map, crate::HEADER + 3 * i);

@@ -1,4 +1,4 @@
--- `listing::leaves` is safe and ends: a walk over a map that opens knows the place of each leaf.
+-- `listing::leaves` is safe: a walk over a map that opens knows the place of each leaf.
 use Rattle.zonemap.proofs.Meeting.{open-long, open-few, first-place}
 use Rattle.listing.proofs.leaves.Goals as goal
 

@@ -4,6 +4,8 @@ use Rattle.colour.proofs.Told.{known-none}
 use Rattle.building.proofs.Outcomes.{checked-count, outside, within, over_root_lem, under-limit}
 use borrow.Author.Rules.{rules}
 use Rattle.building.proofs.building.over_root.Goals as goal
+use Rattle.replies.specs.declared.Refusal.TheVariants.{OverRoot}
+use Rattle.replies.proofs.Mapped.{mapped-good, mapped-bad}
 
 pub returns-then-not-is_within : goal.returns-then-not-is_within
 returns-then-not-is_within c = search (rules, outside)
@@ -24,10 +26,16 @@ pub started-requires-clause-fact_3 : goal.started-requires-clause-fact_3
 started-requires-clause-fact_3 c = search (rules, within)
 
 pub started-requires-clause-fact_4 : goal.started-requires-clause-fact_4
-started-requires-clause-fact_4 c = known-none _ _ _ c.cube.ensures _ _ c.judge.ensures _ c.in-Known.is
+started-requires-clause-fact_4 c =
+    let t = mapped-good OverRoot _ _ c.map_err.ensures.cases _ c.in_ok-map_err.was in
+    search (rules, known-none)
 
-pub returns-in-Known : goal.returns-in-Known
-returns-in-Known c = search (rules, within, under-limit)
+pub returns-in_err-map_err : goal.returns-in_err-map_err
+returns-in_err-map_err c =
+    let t = mapped-bad OverRoot _ _ c.map_err.ensures.cases _ c.in_err-map_err.was _ c.from_residual.ensures.1 in
+    rw t.2 (search (rules, within, over_root_lem))
 
-pub returns-in-Past : goal.returns-in-Past
-returns-in-Past c = search (rules, within, over_root_lem)
+pub returns : goal.returns
+returns c =
+    let t = mapped-good OverRoot _ _ c.map_err.ensures.cases _ c.in_ok-map_err.was in
+    search (rules, within, under-limit)

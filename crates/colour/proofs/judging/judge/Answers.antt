@@ -26,8 +26,8 @@ record_at-r-requires c = search (rules, walking-stands)
 pub bounds-requires : goal.bounds-requires
 bounds-requires c = search (rules, held)
 
-pub returns-in-Past : goal.returns-in-Past
-returns-in-Past c = search (rules, judged-past _ _ _ _ _ _ _ _ _ c.loop-b.invariant)
+pub returns-in-Err : goal.returns-in-Err
+returns-in-Err c = search (rules, judged-past _ _ _ _ _ _ _ _ _ c.loop-b.invariant)
 
 pub state-state-requires : goal.state-state-requires
 state-state-requires c = search (rules, held)

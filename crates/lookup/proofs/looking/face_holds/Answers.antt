@@ -6,8 +6,8 @@ use Rattle.lookup.proofs.looking.face_holds.Goals as goal
 pub judge-requires : goal.judge-requires
 judge-requires c = search (rules, point-near-there)
 
-pub returns-in-Known : goal.returns-in-Known
-returns-in-Known c = search (rules, face-known)
+pub returns-in-Ok : goal.returns-in-Ok
+returns-in-Ok c = search (rules, face-known)
 
-pub returns-in-Past : goal.returns-in-Past
-returns-in-Past c = search (rules, face-past)
+pub returns-in-Err : goal.returns-in-Err
+returns-in-Err c = search (rules, face-past)

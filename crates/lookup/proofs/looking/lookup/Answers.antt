@@ -7,8 +7,8 @@ use Rattle.lookup.proofs.looking.lookup.Goals as goal
 pub over_root-requires : goal.over_root-requires
 over_root-requires c = search (rules, not-shut, pair_is)
 
-pub returns-in-Good : goal.returns-in-Good
-returns-in-Good c = search (rules, handed)
+pub returns-in_err-pair : goal.returns-in_err-pair
+returns-in_err-pair c = search (rules, handed, shut)
 
-pub returns-in-Refused : goal.returns-in-Refused
-returns-in-Refused c = search (rules, handed, shut)
+pub returns : goal.returns
+returns c = search (rules, handed)

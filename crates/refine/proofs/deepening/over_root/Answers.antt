@@ -4,6 +4,8 @@ use Rattle.building.proofs.Outcomes.{checked-count}
 use Rattle.refine.proofs.OverRoot.{root-side, root-near, over_root_lem, under-limit}
 use borrow.Author.Rules.{rules}
 use Rattle.refine.proofs.deepening.over_root.Goals as goal
+use Rattle.replies.specs.declared.Refusal.TheVariants.{OverRoot}
+use Rattle.replies.proofs.Mapped.{mapped-good, mapped-bad}
 
 pub list_offsets-requires : goal.list_offsets-requires
 list_offsets-requires c = search (rules, checked-count)
@@ -18,10 +20,16 @@ pub judge-requires-clause-fact_3 : goal.judge-requires-clause-fact_3
 judge-requires-clause-fact_3 c = search (rules, root-near)
 
 pub started-requires-clause-fact_4 : goal.started-requires-clause-fact_4
-started-requires-clause-fact_4 c = known-none _ _ _ c.cube.ensures _ _ c.judge.ensures _ c.in-Known.is
+started-requires-clause-fact_4 c =
+    let t = mapped-good OverRoot _ _ c.map_err.ensures.cases _ c.in_ok-map_err.was in
+    search (rules, known-none)
 
-pub returns-in-Known : goal.returns-in-Known
-returns-in-Known c = under-limit _ _ c.requires.fact_2 _ c.cube.ensures _ _ _ c.judge.ensures _ c.in-Known.is _ _ c.started.ensures
+pub returns-in_err-map_err : goal.returns-in_err-map_err
+returns-in_err-map_err c =
+    let t = mapped-bad OverRoot _ _ c.map_err.ensures.cases _ c.in_err-map_err.was _ c.from_residual.ensures.1 in
+    rw t.2 (over_root_lem _ _ c.requires.fact_2 _ c.cube.ensures _ _ _ c.judge.ensures _ t.1 _)
 
-pub returns-in-Past : goal.returns-in-Past
-returns-in-Past c = over_root_lem _ _ c.requires.fact_2 _ c.cube.ensures _ _ _ c.judge.ensures _ c.in-Past.is _
+pub returns : goal.returns
+returns c =
+    let t = mapped-good OverRoot _ _ c.map_err.ensures.cases _ c.in_ok-map_err.was in
+    under-limit _ _ c.requires.fact_2 _ c.cube.ensures _ _ _ c.judge.ensures _ t _ _ c.started.ensures

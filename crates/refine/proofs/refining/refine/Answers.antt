@@ -8,7 +8,7 @@ pub deepen-requires-clause-fact_1 : goal.deepen-requires-clause-fact_1
 deepen-requires-clause-fact_1 c = search (rules, not-shut)
 
 pub deepen-requires-clause-fact_2 : goal.deepen-requires-clause-fact_2
-deepen-requires-clause-fact_2 c = some_pair _ _ _ _ c.open.ensures _ c.in-Good.is
+deepen-requires-clause-fact_2 c = some_pair _ _ _ _ c.open.ensures _ c.in_ok-pair.was
 
-pub returns-in-Refused : goal.returns-in-Refused
-returns-in-Refused c = search (rules, shut)
+pub returns-in_err-pair : goal.returns-in_err-pair
+returns-in_err-pair c = search (rules, shut)

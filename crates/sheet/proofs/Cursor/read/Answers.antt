@@ -15,8 +15,8 @@ overflow_cast-size c = search (rules, byte_fits, c.shared_slice_known-2-1.given)
 pub returns-then-s-at-2 : goal.returns-then-s-at-2
 returns-then-s-at-2 c = search (rules, refused_over)
 
-pub returns-in_default : goal.returns-in_default
-returns-in_default c = search (rules, refused-row)
+pub returns-in_err-r : goal.returns-in_err-r
+returns-in_err-r c = search (rules, refused-row)
 
 pub returns : goal.returns
 returns c = search (rules, found-row)

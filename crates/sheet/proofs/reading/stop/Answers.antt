@@ -6,8 +6,8 @@ use Rattle.sheet.proofs.reading.stop.Goals as goal
 pub loop-next-init : goal.loop-next-init
 loop-next-init c = search (rules, at_first)
 
-pub returns-in_default : goal.returns-in_default
-returns-in_default c = search (rules, stop_is)
+pub returns-in-Err : goal.returns-in-Err
+returns-in-Err c = search (rules, stop_is)
 
 pub loop-next-smaller : goal.loop-next-smaller
 loop-next-smaller c = search (rules, fewer-left)

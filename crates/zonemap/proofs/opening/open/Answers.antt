@@ -1,13 +1,20 @@
 -- `zonemap::opening::open` meets its contract: every face is marked.
-use Rattle.zonemap.proofs.Opens.{opened-long, opened, not_opened}
+use Rattle.replies.specs.declared.Refusal.TheVariants.{Map}
+use Rattle.zonemap.proofs.Opens.{opened-long, opened, not_opened, mapped-good, mapped-bad}
 use borrow.Author.Rules.{rules}
 use Rattle.zonemap.proofs.opening.open.Goals as goal
 
+pub returns-in_err-map_err : goal.returns-in_err-map_err
+returns-in_err-map_err c =
+    let t = mapped-bad Map _ _ c.map_err.ensures.cases _ c.in_err-map_err.was _ c.from_residual.ensures.1 in
+    rw t.2 (search (rules, not_opened))
+
 pub leaf_count-requires : goal.leaf_count-requires
-leaf_count-requires c = search (rules, opened-long)
+leaf_count-requires c =
+    let t = mapped-good Map _ _ c.map_err.ensures.cases _ c.in_ok-map_err.was in
+    search (rules, opened-long)
 
-pub returns-in-At : goal.returns-in-At
-returns-in-At c = search (rules, opened)
-
-pub returns-in-Bad : goal.returns-in-Bad
-returns-in-Bad c = search (rules, not_opened)
+pub returns : goal.returns
+returns c =
+    let t = mapped-good Map _ _ c.map_err.ensures.cases _ c.in_ok-map_err.was in
+    search (rules, opened)

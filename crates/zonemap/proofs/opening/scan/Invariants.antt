@@ -1,12 +1,7 @@
--- `zonemap::opening::scan` meets its contract: the remaining leaves determine what the whole list does.
-use Prim.Native.Nat.{◌-◌}
-use lib.Dec.{eqb}
-use lib.ListN.{length, get_or}
+-- `zonemap::opening::scan` meets its contract: the leaves from leaf i on determine what the whole list does.
+use Rattle.zonemap.specs.Inner.{marked}
 use Rattle.zonemap.proofs.Scan.{Scan}
 use Rattle.zonemap.proofs.opening.scan.Given as goal
 
-abbrev pub invariant-loop-at : goal.invariant-loop-at
-invariant-loop-at l = Scan (λ f. eqb (get_or l.faces f 0) 1) l.map l.d l.m l.place l.at l.found
-
-abbrev pub decreases-loop-at : goal.decreases-loop-at
-decreases-loop-at l = length l.map - l.at
+abbrev pub invariant-loop-i : goal.invariant-loop-i
+invariant-loop-i l = Scan (marked l.faces) l.map l.d l.m l.i l.place l.found

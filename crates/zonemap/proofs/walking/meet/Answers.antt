@@ -5,10 +5,10 @@ use borrow.Author.Rules.{rules}
 use Rattle.zonemap.proofs.walking.meet.Goals as goal
 
 pub overflow_mul-i : goal.overflow_mul-i
-overflow_mul-i c = record { fits = omega (arith, met-room _ c.requires.fact_1 _ c.requires.fact_2 _ c.requires.fact_3) }
+overflow_mul-i c = record { fits = omega (arith, met-room _ c.requires.opens _ c.requires.its_root _ c.requires.among) }
 
 pub overflow_add-i : goal.overflow_add-i
-overflow_add-i c = record { fits = omega (arith, met-room _ c.requires.fact_1 _ c.requires.fact_2 _ c.requires.fact_3) }
+overflow_add-i c = record { fits = omega (arith, met-room _ c.requires.opens _ c.requires.its_root _ c.requires.among) }
 
 pub leaf_at-leaf-requires : goal.leaf_at-leaf-requires
 leaf_at-leaf-requires c = search (rules, met-room)

@@ -1,6 +1,6 @@
 -- The first record whose bounds pass the limit, among entries.
 use mathlib.Core.Path.{◌≡◌, refl, sym, ap, ◌∙◌}
-use mathlib.Core.List.{List, [], ◌∷◌, ◌++◌}
+use mathlib.Core.List.{List, [], ◌∷◌}
 use Prim.Native.Nat.{ℕ, zero, suc, ◌+◌, ◌<◌}
 use native.Mathlib.Omega.{arith}
 use lib.ListN.{get_or}
@@ -54,9 +54,3 @@ pub past_cases : {A : Type 0} (n : ℕ) (es : List Entry) → (past_from n es �
 unfolding past_from
 past_cases n [] f g = f refl
 past_cases n (e ∷ es) f g = by_end e.bounds (λ _ t. past_cases (suc n) es (λ h. f (rw t h)) (λ o h. g o (rw t h))) (λ end t. g (over n end) (rw t))
-
-pub keep-more : (es : List Entry) (e : Entry) → Keep es → SmallEnds e.bounds → Keep (es ++ e ∷ [])
-keep-more [] e k h zero = h
-keep-more [] e k h (suc a) = k (suc a)
-keep-more (x ∷ es) e k h zero = k zero
-keep-more (x ∷ es) e k h (suc a) = keep-more es e (λ b. k (suc b)) h a

@@ -1,6 +1,6 @@
 -- Laws of the rule by which both and either join two states.
-use mathlib.Core.Path.{◌≡◌, refl, sym, ◌∙◌}
-use mathlib.Core.Bool.{Bool, true, false, or-true, true≢false}
+use mathlib.Core.Path.{◌≡◌, refl, sym}
+use mathlib.Core.Bool.{Bool, true, or-true, true≢false}
 use Rattle.integers.proofs.Order.{by-test}
 use Rattle.colour.specs.declared.State.{State}
 use Rattle.colour.specs.declared.State.TheVariants.{Out, In, Single, Comp, Mixed}
@@ -24,31 +24,6 @@ is-out Mixed e = absurd (true≢false (sym e))
 module _ (otherwise : State → State → State → State) (decides : State → Bool) (decided : State) (leaves : State → Bool) (s t : State) where
   abbrev joined : State
   joined = joined_by otherwise decides decided leaves s t
-
-  -- ---- the five cases, in the order of the tests
-  module _ (a : Bool) (ea : a ≡ decides s) where
-    pub first-decides : a ≡ true → decided ≡ joined
-    unfolding joined_by
-    first-decides h = rw (sym ea ∙ h)
-
-    module _ (na : a ≡ false) (b : Bool) (eb : b ≡ decides t) where
-      pub second-decides : b ≡ true → decided ≡ joined
-      unfolding joined_by
-      second-decides h = rw (sym ea ∙ na, sym eb ∙ h)
-
-      module _ (nb : b ≡ false) (c : Bool) (ec : c ≡ leaves s) where
-        pub first-leaves : c ≡ true → t ≡ joined
-        unfolding joined_by
-        first-leaves h = rw (sym ea ∙ na, sym eb ∙ nb, sym ec ∙ h)
-
-        module _ (nc : c ≡ false) (d : Bool) (ed : d ≡ leaves t) where
-          pub second-leaves : d ≡ true → s ≡ joined
-          unfolding joined_by
-          second-leaves h = rw (sym ea ∙ na, sym eb ∙ nb, sym ec ∙ nc, sym ed ∙ h)
-
-          pub neither : d ≡ false → (r : State) → r ≡ otherwise decided s t → r ≡ joined
-          unfolding joined_by
-          neither nd r e = rw (sym ea ∙ na, sym eb ∙ nb, sym ec ∙ nc, sym ed ∙ nd) e
 
   -- ---- the order of the operands does not matter, if no two different states leave it to the other
   pub joined-commutes : (leaves s ≡ true → leaves t ≡ true → s ≡ t) → otherwise decided s t ≡ otherwise decided t s → joined ≡ joined_by otherwise decides decided leaves t s

@@ -1,4 +1,3 @@
-pub mod Coordinates
 pub mod Arms
 pub mod Filling
 pub mod Rows

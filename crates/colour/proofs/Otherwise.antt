@@ -2,13 +2,16 @@
 use mathlib.Core.Path.{◌≡◌, refl, sym, ap, ap₂, ◌∙◌}
 use mathlib.Core.Bool.{Bool, true, false, cond, and-eq-true_iff, true≢false}
 use Prim.Native.Nat.{ℕ}
-use borrow.Author.Tests.{eqb-true, eq-eqb, ne_eqb}
+use borrow.Author.Tests.{eqb-true, eq-eqb}
 use lib.Dec.{eqb}
 use Rattle.integers.proofs.Order.{by-test}
 use Rattle.colour.specs.declared.State.{State}
 use Rattle.colour.specs.declared.State.TheVariants.{Out, In, Single, Comp, Mixed}
 use Rattle.colour.specs.States.{class_of, face_of, is_same, complement_of, otherwise_of}
-use Rattle.colour.specs.Held.{state_by}
+
+-- the state that has this class and face number
+unfoldable pub state_by : ℕ → ℕ → State
+state_by class face = cond (eqb class 0) Out (cond (eqb class 1) In (cond (eqb class 2) (Single face) (cond (eqb class 3) (Comp face) Mixed)))
 
 -- a class and a face are a state again
 pub back-again : (k : State) → state_by (class_of k) (face_of k) ≡ k
@@ -46,16 +49,6 @@ module _ (s t : State) where
   unfolding is_same
   is_same_lem e = rw e ((and-eq-true_iff _ _).1 (eq-eqb (class_of t) (class_of t) refl, eq-eqb (face_of t) (face_of t) refl))
 
-  -- by what `class` and `face` return
-  module _ (c d : ℕ) (ec : c ≡ class_of s) (ed : d ≡ class_of t) where
-    pub other-class : (c ≡ d → ⊥) → eqb c d ≡ is_same s t
-    unfolding is_same
-    other-class n = rw (← ec, ← ed, ne_eqb c d n)
-
-    pub by-faces : c ≡ d → (f g : ℕ) → f ≡ face_of s → g ≡ face_of t → eqb f g ≡ is_same s t
-    unfolding is_same
-    by-faces e f g ef eg = rw (← ec, ← ed, ← ef, ← eg, eq-eqb c d e)
-
   pub not_same : (s ≡ t → ⊥) → is_same s t ≡ false
   not_same n = by-test (is_same s t) (λ e. absurd (n (same-is e))) (λ e. e)
 
@@ -73,22 +66,19 @@ same-turned s t =
     (λ e. ap complement_of e)
 
 -- ---- two states where neither decides and neither leaves it to the other
-module _ (decided s t : State) (a : Bool) (ea : a ≡ is_same s t) where
-  pub otherwise_same : a ≡ true → s ≡ otherwise_of decided s t
+module _ (decided s t : State) where
+  pub otherwise_same : is_same s t ≡ true → s ≡ otherwise_of decided s t
   unfolding otherwise_of
-  otherwise_same h = rw (sym ea ∙ h)
+  otherwise_same h = rw h
 
-  module _ (na : a ≡ false) (u : State) (eu : u ≡ complement_of t) (b : Bool) (eb : b ≡ is_same s u) where
-    opposite : is_same s (complement_of t) ≡ b
-    opposite = rw (← eu) (sym eb)
-
-    pub otherwise-opposite : b ≡ true → decided ≡ otherwise_of decided s t
+  module _ (n : is_same s t ≡ false) (u : State) (eu : u ≡ complement_of t) where
+    pub otherwise-opposite : is_same s u ≡ true → decided ≡ otherwise_of decided s t
     unfolding otherwise_of
-    otherwise-opposite h = rw (sym ea ∙ na, opposite ∙ h)
+    otherwise-opposite h = rw (n, sym (ap (is_same s) eu) ∙ h)
 
-    pub otherwise-mixed : b ≡ false → Mixed ≡ otherwise_of decided s t
+    pub otherwise-mixed : is_same s u ≡ false → Mixed ≡ otherwise_of decided s t
     unfolding otherwise_of
-    otherwise-mixed h = rw (sym ea ∙ na, opposite ∙ h)
+    otherwise-mixed h = rw (n, sym (ap (is_same s) eu) ∙ h)
 
 -- their order does not matter
 pub otherwise-commutes : (decided s t : State) → otherwise_of decided s t ≡ otherwise_of decided t s

@@ -57,9 +57,9 @@ module _ {A : Type 0} (Says : State → A → Type 0) (other : A → A)
 
     otherwise-says : Says (otherwise_of decided s t) (join a b)
     otherwise-says =
-        by-test (is_same s t) (λ e. rw (sym (otherwise_same decided s t _ refl e)) (same-says (same-is s t e)))
-        (λ e. by-test (is_same s (complement_of t)) (λ f. rw (sym (otherwise-opposite decided s t _ refl e _ refl _ refl f)) (opposite-says e (same-is s (complement_of t) f)))
-        (λ f. rw (sym (otherwise-mixed decided s t _ refl e _ refl _ refl f)) (mixed-says (join a b))))
+        by-test (is_same s t) (λ e. rw (sym (otherwise_same decided s t e)) (same-says (same-is s t e)))
+        (λ e. by-test (is_same s (complement_of t)) (λ f. rw (sym (otherwise-opposite decided s t e _ refl f)) (opposite-says e (same-is s (complement_of t) f)))
+        (λ f. rw (sym (otherwise-mixed decided s t e _ refl f)) (mixed-says (join a b))))
 
     pub joined_says : Says (joined_by otherwise_of decides decided leaves s t) (join a b)
     unfolding joined_by

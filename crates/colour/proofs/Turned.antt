@@ -7,7 +7,7 @@ use Rattle.colour.specs.declared.State.{State}
 use Rattle.colour.specs.declared.State.TheVariants.{Out, In, Single, Comp, Mixed}
 use Rattle.colour.specs.States.{is_in, is_out, is_same, complement_of, otherwise_of, joined_by, both_of, either_of}
 use Rattle.colour.proofs.Otherwise.{complement-twice, cond-turned, is_same_lem, not_same, otherwise_same, otherwise-opposite, otherwise-mixed, otherwise-commutes, otherwise-turned}
-use Rattle.colour.proofs.Joined.{is-in, is-out, neither, joined-commutes}
+use Rattle.colour.proofs.Joined.{is-in, is-out, joined-commutes}
 
 -- ---- complement
 in-turned : (s : State) → is_in (complement_of s) ≡ is_out s
@@ -44,17 +44,17 @@ pub both-self : (s : State) → both_of s s ≡ s
 unfolding joined_by
 both-self Out = refl
 both-self In = refl
-both-self (Single f) = sym (otherwise_same Out (Single f) (Single f) _ refl (is_same_lem (Single f) (Single f) refl))
-both-self (Comp f) = sym (otherwise_same Out (Comp f) (Comp f) _ refl (is_same_lem (Comp f) (Comp f) refl))
-both-self Mixed = sym (otherwise_same Out Mixed Mixed _ refl (is_same_lem Mixed Mixed refl))
+both-self (Single f) = sym (otherwise_same Out (Single f) (Single f) (is_same_lem (Single f) (Single f) refl))
+both-self (Comp f) = sym (otherwise_same Out (Comp f) (Comp f) (is_same_lem (Comp f) (Comp f) refl))
+both-self Mixed = sym (otherwise_same Out Mixed Mixed (is_same_lem Mixed Mixed refl))
 
 -- a state with its complement holds nowhere, unless nothing is known
 pub both-complement : (s : State) → (s ≡ Mixed → ⊥) → both_of s (complement_of s) ≡ Out
 unfolding joined_by is_same
 both-complement Out n = refl
 both-complement In n = refl
-both-complement (Single f) n = sym (otherwise-opposite Out (Single f) (Comp f) false refl refl (Single f) refl _ refl (is_same_lem (Single f) (Single f) refl))
-both-complement (Comp f) n = sym (otherwise-opposite Out (Comp f) (Single f) false refl refl (Comp f) refl _ refl (is_same_lem (Comp f) (Comp f) refl))
+both-complement (Single f) n = sym (otherwise-opposite Out (Single f) (Comp f) refl (Single f) refl (is_same_lem (Single f) (Single f) refl))
+both-complement (Comp f) n = sym (otherwise-opposite Out (Comp f) (Single f) refl (Comp f) refl (is_same_lem (Comp f) (Comp f) refl))
 both-complement Mixed n = absurd (n refl)
 
 -- any two others give Mixed
@@ -66,10 +66,11 @@ not-out s n = by-test (is_out s) (λ e. absurd (n (is-out s e))) (λ e. e)
 
 module _ (s t : State) (si : s ≡ In → ⊥) (so : s ≡ Out → ⊥) (ti : t ≡ In → ⊥) (to : t ≡ Out → ⊥) where
   other : both_of s t ≡ otherwise_of Out s t
-  other = sym (neither otherwise_of is_out Out is_in s t false (sym (not-out s so)) refl false (sym (not-out t to)) refl false (sym (not_in s si)) refl false (sym (not_in t ti)) refl _ refl)
+  unfolding joined_by
+  other = rw (not-out s so, not-out t to, not_in s si, not_in t ti)
 
   pub both-mixed : (s ≡ t → ⊥) → (s ≡ complement_of t → ⊥) → both_of s t ≡ Mixed
-  both-mixed same opposite = other ∙ sym (otherwise-mixed Out s t _ refl (not_same s t same) _ refl _ refl (not_same s (complement_of t) opposite))
+  both-mixed same opposite = other ∙ sym (otherwise-mixed Out s t (not_same s t same) _ refl (not_same s (complement_of t) opposite))
 
 -- ---- the order of the operands does not matter
 pub both-commutes : (s t : State) → both_of s t ≡ both_of t s

@@ -1,14 +1,14 @@
 // The rules of states, and the class and face that a state gives a leaf.
 
-ghost use Rattle.std.specs.Prelude.{◌≡◌, length, get_or};
-ghost use Rattle.colour.specs.States.{is_in, is_out, is_same, meets, face_state, complement_of, otherwise_of, both_of, either_of, class_of, face_of};
-ghost use Rattle.colour.specs.Held.{state_by};
+ghost use Rattle.std.specs.Prelude.{◌≡◌};
+ghost use Rattle.colour.specs.States.{is_in, is_out, meets, face_state, complement_of, otherwise_of, both_of, either_of, class_of, face_of};
 
 use crate::State;
 use interval::Interval;
 use sheet::Comparison;
 
 // Whether a face that compares so holds where its operand is v.
+#[tactic(auto, unfolding(crate::specs::States::meets))]
 fn meets(by: Comparison, v: i64) -> bool
     ensures { result ≡ meets by v }
 {
@@ -19,6 +19,7 @@ fn meets(by: Comparison, v: i64) -> bool
 }
 
 // The state of face f, which compares so, coloured by these bounds.
+#[tactic(auto, unfolding(crate::specs::States::face_state))]
 pub fn face_state(by: Comparison, bounds: Interval, f: u8) -> State
     ensures { result ≡ face_state by bounds f }
 {
@@ -31,45 +32,17 @@ pub fn face_state(by: Comparison, bounds: Interval, f: u8) -> State
     State::Out
 }
 
-// The state of record a, whose class and face are in two lists.
-pub fn state_at(classes: &[u8], faces: &[u8], a: u8) -> State
-    requires fact_1 { length classes.now ≡ 256 }
-    requires fact_2 { length faces.now ≡ 256 }
-    ensures { result ≡ state_by (get_or classes.now a 0) (get_or faces.now a 0) }
-{
-    let face = faces[a as usize];
-    match classes[a as usize] {
-        0 => State::Out,
-        1 => State::In,
-        2 => State::Single(face),
-        3 => State::Comp(face),
-        _ => State::Mixed,
-    }
-}
-
 impl State {
     pub fn is_in(self) -> bool
         ensures { result ≡ is_in self }
     {
-        match self {
-            State::Out => false,
-            State::In => true,
-            State::Single(_) => false,
-            State::Comp(_) => false,
-            State::Mixed => false,
-        }
+        matches!(self, State::In)
     }
 
     pub fn is_out(self) -> bool
         ensures { result ≡ is_out self }
     {
-        match self {
-            State::Out => true,
-            State::In => false,
-            State::Single(_) => false,
-            State::Comp(_) => false,
-            State::Mixed => false,
-        }
+        matches!(self, State::Out)
     }
 
     pub fn complement(self) -> State
@@ -84,26 +57,21 @@ impl State {
         }
     }
 
-    // Whether two states are the same: they have the same class and name the same face.
-    fn is_same(self, other: State) -> bool
-        ensures { result ≡ is_same self other }
-    {
-        self.class() == other.class() && self.face() == other.face()
-    }
-
     // What both and either give if neither state decides and neither leaves it to the other. `decided` is what they give of a face and its complement.
     fn otherwise(self, other: State, decided: State) -> State
         ensures { result ≡ otherwise_of decided self other }
     {
-        if self.is_same(other) {
+        if self == other {
             return self; // one face, mentioned twice
         }
-        if self.is_same(other.complement()) {
+        if self == other.complement() {
             return decided;
         }
         State::Mixed
     }
 
+    // Both and either are two rules of document 01, and stand here as two; what they have in common is `joined_by` of specs/States.
+    #[tactic(auto, unfolding(crate::specs::States::joined_by))]
     pub fn both(self, other: State) -> State
         ensures { result ≡ both_of self other }
     {
@@ -122,6 +90,7 @@ impl State {
         self.otherwise(other, State::Out)
     }
 
+    #[tactic(auto, unfolding(crate::specs::States::joined_by))]
     pub fn either(self, other: State) -> State
         ensures { result ≡ either_of self other }
     {
@@ -158,11 +127,8 @@ impl State {
         ensures { result ≡ face_of self }
     {
         match self {
-            State::Out => 0,
-            State::In => 0,
-            State::Single(f) => f,
-            State::Comp(f) => f,
-            State::Mixed => 0,
+            State::Single(f) | State::Comp(f) => f,
+            _ => 0,
         }
     }
 }

@@ -3,6 +3,34 @@
 
 #![tactic(auto)]
 
+use sheet::{Comparison, Cursor, Record};
+use std::fmt;
+
+// A record as it is shown: its kind and what follows it.
+#[derive(Drop)]
+struct Shown(Record);
+
+impl fmt::Display for Shown {
+    fn fmt<W: fmt::Write>(&self, f: &mut fmt::Formatter<W>) -> fmt::Result {
+        match self.0 {
+            Record::Constant(c) => write!(f, "constant {c}"),
+            Record::X => f.write_str("x"),
+            Record::Y => f.write_str("y"),
+            Record::Z => f.write_str("z"),
+            Record::Sum(a, b) => write!(f, "sum {a} {b}"),
+            Record::Difference(a, b) => write!(f, "difference {a} {b}"),
+            Record::Product(a, b) => write!(f, "product {a} {b}"),
+            Record::Square(a) => write!(f, "square {a}"),
+            Record::Face(Comparison::AtMost, a) => write!(f, "face {a}"),
+            // A face of a version 2 sheet excludes its own points.
+            Record::Face(Comparison::LessThan, a) => write!(f, "strict face {a}"),
+            Record::Both(p, q) => write!(f, "both {p} {q}"),
+            Record::Either(p, q) => write!(f, "either {p} {q}"),
+            Record::Complement(p) => write!(f, "complement {p}"),
+        }
+    }
+}
+
 fn main(rt: HostRuntime) {
     // A sheet whose length agrees has at most 65,537 bytes. One byte more than that disagrees, however many follow.
     let mut input = [0u8; 65538];
@@ -12,98 +40,20 @@ fn main(rt: HostRuntime) {
 
 fn tell(rt: &impl Print, s: &[u8]) {
     match sheet::check(s) {
-        Ok(_) => {
-            records(rt, s);
-        }
+        Ok(_) => records(rt, s),
         Err(why) => {
-            let _refused = rt.write_all(b"refused");
-            number(rt, why.code() as u64);
-            number(rt, why.number() as u64);
-            end(rt);
+            let _refused = println!(rt; "refused {} {}", why.code(), why.number());
         }
     }
 }
 
+// One line per record, with its number and its byte offset in the sheet.
 fn records(rt: &impl Print, s: &[u8]) {
-    let mut c = sheet::Cursor::start();
-    let mut n = 0;
-    loop {
-        let Ok((r, next)) = c.read(s) else {
-            return;
-        };
-        heading(rt, n, c.at);
-        record(rt, r);
-        end(rt);
+    let mut c = Cursor::start();
+    let mut n = 0u64;
+    while let Ok((r, next)) = c.read(s) {
+        let _record = println!(rt; "{n} at {}: {}", c.at, Shown(r));
         n += 1;
         c = next;
     }
-}
-
-// A record's number and its byte offset in the sheet.
-fn heading(rt: &impl Print, n: u64, at: usize) {
-    let _heading = print!(rt; "{n} at");
-    number(rt, at as u64);
-    let _colon = print!(rt; ":");
-}
-
-// A record's kind and what follows it.
-fn record(rt: &impl Print, r: sheet::Record) {
-    match r {
-        sheet::Record::Constant(c) => constant(rt, c),
-        sheet::Record::X => kind(rt, b" x"),
-        sheet::Record::Y => kind(rt, b" y"),
-        sheet::Record::Z => kind(rt, b" z"),
-        sheet::Record::Sum(a, b) => operands(rt, b" sum", a, b),
-        sheet::Record::Difference(a, b) => operands(rt, b" difference", a, b),
-        sheet::Record::Product(a, b) => operands(rt, b" product", a, b),
-        sheet::Record::Square(a) => operand(rt, b" square", a),
-        sheet::Record::Face(by, a) => face(rt, by, a),
-        sheet::Record::Both(p, q) => operands(rt, b" both", p, q),
-        sheet::Record::Either(p, q) => operands(rt, b" either", p, q),
-        sheet::Record::Complement(p) => operand(rt, b" complement", p),
-    }
-}
-
-fn kind(rt: &impl Print, name: &[u8]) {
-    let _name = rt.write_all(name);
-}
-
-fn constant(rt: &impl Print, c: i32) {
-    kind(rt, b" constant");
-    whole(rt, c);
-}
-
-// A face of a version 2 sheet is strict: it excludes its own points.
-fn face(rt: &impl Print, by: sheet::Comparison, a: u8) {
-    match by {
-        sheet::Comparison::AtMost => operand(rt, b" face", a),
-        sheet::Comparison::LessThan => operand(rt, b" strict face", a),
-    }
-}
-
-fn operand(rt: &impl Print, name: &[u8], a: u8) {
-    kind(rt, name);
-    number(rt, a as u64);
-}
-
-fn operands(rt: &impl Print, name: &[u8], a: u8, b: u8) {
-    operand(rt, name, a);
-    number(rt, b as u64);
-}
-
-// A space and a number.
-fn number(rt: &impl Print, n: u64) {
-    let _number = print!(rt; " {n}");
-}
-
-// A space and a number with its sign.
-fn whole(rt: &impl Print, n: i32) {
-    let mut out = [0u8; 20];
-    let end = text::put_number(&mut out, 0, n as i64);
-    let _space = rt.write_all(b" ");
-    let _number = rt.write_all(&out[..end]);
-}
-
-fn end(rt: &impl Print) {
-    let _end = println!(rt);
 }

@@ -37,7 +37,7 @@ pub struct Point {
 }
 
 // An axis. Its number in the definitions is 0, 1 or 2, and a child number has its half on that axis in that bit.
-#[derive(Clone, Copy)]
+#[derive(Clone, Copy, Debug, PartialEq, Eq)]
 enum Axis {
     X,
     Y,
@@ -158,11 +158,11 @@ impl Root {
 }
 
 impl Cube {
-    // Child n: half the side, one level down. (The proofs of `replacing` cite the first clause by its name.)
+    // Child n: half the side, one level down.
     #[tactic(auto, unfolding(crate::specs::Cubes::child_of))]
     pub fn child(self, n: u8) -> Cube
-        requires fact_1 { Near 1 self }
-        requires fact_2 { n < 8 }
+        requires near { Near 1 self }
+        requires octant { n < 8 }
         ensures { result ≡ child_of self n }
     {
         let side = self.side / 2;

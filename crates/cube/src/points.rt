@@ -75,11 +75,11 @@ impl Point {
 }
 
 impl Root {
-    // The place of a point of the root. (The proofs of `zonemap` cite the clauses by their names.)
+    // The place of a point of the root.
     #[tactic(auto, using(crate::proofs::Limits::root_facts), unfolding(crate::specs::Points::place_of))]
     pub fn place(self, p: Point) -> u32
-        requires fact_1 { in_limits self ≡ true }
-        requires fact_2 { holds_point (root_cube self) p ≡ true }
+        requires within { in_limits self ≡ true }
+        requires inside { holds_point (root_cube self) p ≡ true }
         ensures { result ≡ place_of self p }
     {
         let n = self.k - self.d;

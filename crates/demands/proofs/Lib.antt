@@ -24,3 +24,5 @@ pub mod Kept
 pub mod Contracts
 pub mod Returns
 pub mod Substitutes
+pub mod Named
+pub mod NamedWords

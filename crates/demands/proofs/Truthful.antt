@@ -13,7 +13,7 @@ use Rattle.meaning.specs.Fractions.{FractionalPoint, InClosed}
 use Rattle.meaning.specs.Truth.{holds_at, in_solid}
 use Rattle.colour.specs.declared.State.{State}
 use Rattle.colour.specs.States.{class_of, face_of}
-use Rattle.colour.specs.Held.{state_by}
+use Rattle.colour.proofs.Otherwise.{state_by}
 use Rattle.colour.proofs.Otherwise.{back-again}
 use Rattle.soundness.specs.Claims.{Sound}
 use Rattle.zonemap.specs.declared.Leaf.{Leaf}

@@ -8,8 +8,7 @@ use native.Mathlib.Omega.{arith}
 use lib.IntN.{ℤ, pos, nat_abs, ◌*ℤ◌}
 use lib.Signed.{le_z, lt_z, ◌≤ℤ◌}
 use mir.Syntax.{w64}
-use mir.Val.{SFits, to_z, of_z}
-use mir.Facts.{to_z-of_z}
+use mir.Val.{to_z, of_z}
 use Rattle.integers.specs.Least.{lesser_of, greater_of}
 use Rattle.integers.proofs.Naturals.{ints, cond_ind}
 use Rattle.integers.proofs.Order.{≤_trans, ≤-both, by-test, T_true, le_z-true, le_z-false, le_z-above, lt_z-true}
@@ -21,31 +20,6 @@ use Rattle.interval.specs.declared.Interval.{Interval}
 use Rattle.interval.proofs.Limit.{limit-back, clamp-keeps, bounded-clamped}
 use Rattle.interval.proofs.Signs.{product-commutes, product-swapped, above-above, above-below, above-across, below-above, below-below, below-across, across-above, across-below, across-across}
 use Rattle.replies.specs.declared.End.{End}
-
--- ---- ordered
-module _ (i : Interval) (fl : SFits w64 i.low) (fh : SFits w64 i.high) where
-  pub ordered_same : le_z (to_z w64 (of_z w64 i.low)) (to_z w64 (of_z w64 i.high)) ≡ true → i ≡ ordered_of i
-  unfolding ordered_of
-  ordered_same t = rw (rw (to_z-of_z fl, to_z-of_z fh) at t)
-
-  pub ordered-turned : le_z (to_z w64 (of_z w64 i.low)) (to_z w64 (of_z w64 i.high)) ≡ false → from (to_z w64 (of_z w64 i.high)) (to_z w64 (of_z w64 i.low)) ≡ ordered_of i
-  unfolding ordered_of
-  ordered-turned t = rw (to_z-of_z fl, to_z-of_z fh, rw (to_z-of_z fl, to_z-of_z fh) at t)
-
--- ---- least_factor and greatest_factor
-module _ (j : Interval) (x y z : ℤ) (fl : SFits w64 j.low) where
-  pub factor-above : SFits w64 x → le_z (pos 0) (to_z w64 (of_z w64 j.low)) ≡ true → to_z w64 (of_z w64 x) ≡ by_sign j x y z
-  unfolding by_sign
-  factor-above f t = rw (to_z-of_z f, rw (to_z-of_z fl) at t)
-
-  module _ (fh : SFits w64 j.high) (t : le_z (pos 0) (to_z w64 (of_z w64 j.low)) ≡ false) where
-    pub factor-below : SFits w64 y → le_z (to_z w64 (of_z w64 j.high)) (pos 0) ≡ true → to_z w64 (of_z w64 y) ≡ by_sign j x y z
-    unfolding by_sign
-    factor-below f u = rw (to_z-of_z f, rw (to_z-of_z fl) at t, rw (to_z-of_z fh) at u)
-
-    pub factor-across : (r : ℤ) → le_z (to_z w64 (of_z w64 j.high)) (pos 0) ≡ false → r ≡ z → r ≡ by_sign j x y z
-    unfolding by_sign
-    factor-across r u e = rw (rw (to_z-of_z fl) at t, rw (to_z-of_z fh) at u) e
 
 -- ---- two_corners: the products that the two functions choose are the least and the greatest
 -- case split: nowhere negative, nowhere positive, or across zero, as the code tests it

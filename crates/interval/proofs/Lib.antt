@@ -1,6 +1,6 @@
 pub mod Limit
 pub mod Facts
-pub mod Tests
+pub mod MinMax
 pub mod Products
 pub mod Signs
 pub mod Corners

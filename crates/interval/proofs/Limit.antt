@@ -11,7 +11,7 @@ use mir.Syntax.{w64}
 use mir.Val.{SFits, to_z, of_z}
 use Rattle.integers.proofs.Naturals.{ints, abs_is, abs-+, abs-minus}
 use Rattle.integers.proofs.Order.{by-test}
-use Rattle.integers.proofs.Machine.{fits, back, result_fits, result-back}
+use Rattle.integers.proofs.Machine.{fits, back, result-back}
 use Rattle.interval.specs.Rules.{from}
 use Rattle.interval.specs.Limit.{is_small, past_end, bounded_of}
 use Rattle.interval.specs.Inner.{clamp_of}
@@ -47,14 +47,8 @@ module _ (a b : ℤ) (ha : nat_abs a ≤ 2 ^ 60) (hb : nat_abs b ≤ 2 ^ 60) whe
   plain-difference : SFits w64 (a -ℤ b)
   plain-difference = fits w64 (a -ℤ b) (omega (arith, abs-minus a b))
 
-  pub sum_fits : SFits w64 (to_z w64 (of_z w64 a) +ℤ to_z w64 (of_z w64 b))
-  sum_fits = result_fits w64 ◌+ℤ◌ a b (limit-fits a ha) (limit-fits b hb) plain-sum
-
   pub sum_back : to_z w64 (of_z w64 (to_z w64 (of_z w64 a) +ℤ to_z w64 (of_z w64 b))) ≡ a +ℤ b
   sum_back = result-back w64 ◌+ℤ◌ a b (limit-fits a ha) (limit-fits b hb) plain-sum
-
-  pub difference-fits : SFits w64 (to_z w64 (of_z w64 a) -ℤ to_z w64 (of_z w64 b))
-  difference-fits = result_fits w64 ◌-ℤ◌ a b (limit-fits a ha) (limit-fits b hb) plain-difference
 
   pub difference-back : to_z w64 (of_z w64 (to_z w64 (of_z w64 a) -ℤ to_z w64 (of_z w64 b))) ≡ a -ℤ b
   difference-back = result-back w64 ◌-ℤ◌ a b (limit-fits a ha) (limit-fits b hb) plain-difference

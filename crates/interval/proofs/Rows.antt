@@ -7,7 +7,6 @@ use Rattle.integers.specs.Least.{lesser_of, greater_of}
 use Rattle.replies.specs.declared.End.TheVariants.{Low, High}
 use Rattle.interval.specs.Rules.{from, only, span, sum, difference, product, square}
 use Rattle.interval.specs.Limit.{is_small, past_end, bounded_of}
-use Rattle.replies.specs.declared.End.{End}
 
 abbrev minus : ℕ → ℤ
 minus n = neg_ℤ (pos n)

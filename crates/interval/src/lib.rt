@@ -3,7 +3,6 @@
 #![tactic(auto)]
 
 ghost use Rattle.std.specs.Prelude.{◌≡◌, true, false, ◌*◌, ◌≤◌, ◌^◌, leb, nat_abs, ◌*ℤ◌};
-ghost use Rattle.integers.specs.Least.{lesser_of, greater_of};
 ghost use Rattle.interval.specs.Rules.{sum, difference, product, square};
 ghost use Rattle.interval.specs.Limit.{SmallEnds, is_small, bounded_of};
 ghost use Rattle.interval.specs.Inner.{OrderedEnds, is_across, both_across, clamp_of, clamped, ordered_of, least_factor, greatest_factor};
@@ -20,13 +19,14 @@ const LIMIT: u64 = GREATEST as u64;
 // The product of two numbers up to this magnitude, 2^30, is within the limit.
 const SHORT: i64 = 1073741824;
 
-#[derive(Clone, Copy)]
+#[derive(Clone, Copy, Debug, PartialEq, Eq)]
 pub struct Interval {
     pub low: i64,
     pub high: i64,
 }
 
 // Whether x lies in -2^60 to 2^60.
+#[tactic(auto, unfolding(crate::specs::Limit::is_small))]
 fn is_small(x: i64) -> bool
     ensures { result ≡ is_small x }
 {
@@ -38,16 +38,6 @@ fn is_short(x: i64) -> bool
     ensures { result ≡ leb (nat_abs x) (2 ^ 30) }
 {
     -SHORT <= x && x <= SHORT
-}
-
-fn magnitude(x: i64) -> u64
-    requires { nat_abs x ≤ 2 ^ 60 }
-    ensures { result ≡ nat_abs x }
-{
-    if x < 0 {
-        return (0 - x) as u64;
-    }
-    x as u64
 }
 
 // Whether m * n is at most 2^60. The limit is divided, so that no product wraps.
@@ -63,14 +53,14 @@ fn is_small_product(m: u64, n: u64) -> bool
 // The product if it is within the limit; otherwise the first number past the limit, on the product's side. Short factors are tested first, since a division
 // takes longer than all the rest, and some compilers begin it before they know that it is needed.
 fn times(a: i64, b: i64) -> i64
-    requires fact_1 { nat_abs a ≤ 2 ^ 60 }
-    requires fact_2 { nat_abs b ≤ 2 ^ 60 }
+    requires a_small { nat_abs a ≤ 2 ^ 60 }
+    requires b_small { nat_abs b ≤ 2 ^ 60 }
     ensures { result ≡ clamp_of (a *ℤ b) }
 {
     if is_short(a) && is_short(b) {
         return a * b;
     }
-    if is_small_product(magnitude(a), magnitude(b)) {
+    if is_small_product(a.unsigned_abs(), b.unsigned_abs()) {
         return a * b;
     }
     if (a < 0) == (b < 0) {
@@ -79,20 +69,9 @@ fn times(a: i64, b: i64) -> i64
     LEAST - 1
 }
 
-fn lesser(a: i64, b: i64) -> i64
-    ensures { result ≡ lesser_of a b }
-{
-    if a <= b { a } else { b }
-}
-
-fn greater(a: i64, b: i64) -> i64
-    ensures { result ≡ greater_of a b }
-{
-    if a <= b { b } else { a }
-}
-
 impl Interval {
     // The interval if both its ends lie within the limit, otherwise the end past it, of which the low one counts first.
+    #[tactic(auto, unfolding(crate::specs::Limit::bounded_of, crate::specs::Limit::past_end))]
     pub fn limited(self) -> Result<Interval, End>
         ensures { result ≡ bounded_of self }
     {
@@ -105,9 +84,10 @@ impl Interval {
         Ok(self)
     }
 
+    #[tactic(auto, unfolding(crate::specs::Rules::sum))]
     pub fn sum(self, other: Interval) -> Result<Interval, End>
-        requires fact_1 { SmallEnds self }
-        requires fact_2 { SmallEnds other }
+        requires self_small { SmallEnds self }
+        requires other_small { SmallEnds other }
         ensures { result ≡ bounded_of (sum self other) }
     {
         let low = self.low + other.low;
@@ -115,9 +95,10 @@ impl Interval {
         Interval { low, high }.limited()
     }
 
+    #[tactic(auto, unfolding(crate::specs::Rules::difference))]
     pub fn difference(self, other: Interval) -> Result<Interval, End>
-        requires fact_1 { SmallEnds self }
-        requires fact_2 { SmallEnds other }
+        requires self_small { SmallEnds self }
+        requires other_small { SmallEnds other }
         ensures { result ≡ bounded_of (difference self other) }
     {
         let low = self.low - other.high;
@@ -126,6 +107,7 @@ impl Interval {
     }
 
     // The same two ends, the lesser one first.
+    #[tactic(auto, unfolding(crate::specs::Inner::ordered_of))]
     fn ordered(self) -> Interval
         ensures { result ≡ ordered_of self }
     {
@@ -139,6 +121,7 @@ impl Interval {
     }
 
     // Whether zero lies strictly inside.
+    #[tactic(auto, unfolding(crate::specs::Inner::is_across))]
     fn is_across(self) -> bool
         ensures { result ≡ is_across self }
     {
@@ -146,6 +129,7 @@ impl Interval {
     }
 
     // Whether it does in both operands.
+    #[tactic(auto, unfolding(crate::specs::Inner::both_across))]
     fn both_across(self, other: Interval) -> bool
         ensures { result ≡ both_across self other }
     {
@@ -154,6 +138,7 @@ impl Interval {
 
     // The end that is this operand's factor in the low end of the product, if zero is not strictly inside both: by the sign of the other operand, and
     // by its own if the other has zero strictly inside.
+    #[tactic(auto, unfolding(crate::specs::Inner::least_factor, crate::specs::Inner::by_sign))]
     fn least_factor(self, other: Interval) -> i64
         ensures { result ≡ least_factor self other }
     {
@@ -169,7 +154,8 @@ impl Interval {
         self.high
     }
 
-    // The same for the high end.
+    // The same for the high end. (One function for both ends would take the ends in another order each time: no plainer.)
+    #[tactic(auto, unfolding(crate::specs::Inner::greatest_factor, crate::specs::Inner::by_sign))]
     fn greatest_factor(self, other: Interval) -> i64
         ensures { result ≡ greatest_factor self other }
     {
@@ -187,9 +173,9 @@ impl Interval {
 
     // The product, clamped, of two operands of which one does not have zero strictly inside: two products of ends.
     fn two_corners(self, other: Interval) -> Interval
-        requires fact_1 { OrderedEnds self }
-        requires fact_2 { OrderedEnds other }
-        requires fact_3 { both_across self other ≡ false }
+        requires self_ordered { OrderedEnds self }
+        requires other_ordered { OrderedEnds other }
+        requires not_both_across { both_across self other ≡ false }
         ensures { result ≡ clamped (product self other) }
     {
         Interval {
@@ -200,21 +186,21 @@ impl Interval {
 
     // The product, clamped, of two operands that both have zero strictly inside: four products of ends, two of which are negative and two positive.
     fn four_corners(self, other: Interval) -> Interval
-        requires fact_1 { OrderedEnds self }
-        requires fact_2 { OrderedEnds other }
-        requires fact_3 { both_across self other ≡ true }
+        requires self_ordered { OrderedEnds self }
+        requires other_ordered { OrderedEnds other }
+        requires both_across { both_across self other ≡ true }
         ensures { result ≡ clamped (product self other) }
     {
         Interval {
-            low: lesser(times(self.low, other.high), times(self.high, other.low)),
-            high: greater(times(self.low, other.low), times(self.high, other.high)),
+            low: times(self.low, other.high).min(times(self.high, other.low)),
+            high: times(self.low, other.low).max(times(self.high, other.high)),
         }
     }
 
     // The product, clamped, by the signs of the operands.
     fn corners(self, other: Interval) -> Interval
-        requires fact_1 { OrderedEnds self }
-        requires fact_2 { OrderedEnds other }
+        requires self_ordered { OrderedEnds self }
+        requires other_ordered { OrderedEnds other }
         ensures { result ≡ clamped (product self other) }
     {
         if self.both_across(other) {
@@ -224,8 +210,8 @@ impl Interval {
     }
 
     pub fn product(self, other: Interval) -> Result<Interval, End>
-        requires fact_1 { SmallEnds self }
-        requires fact_2 { SmallEnds other }
+        requires self_small { SmallEnds self }
+        requires other_small { SmallEnds other }
         ensures { result ≡ bounded_of (product self other) }
     {
         self.ordered().corners(other.ordered()).limited()
@@ -245,7 +231,7 @@ impl Interval {
         if b <= 0 {
             return Interval { low: bb, high: aa }.limited();
         }
-        let high = greater(aa, bb);
+        let high = aa.max(bb);
         Interval { low: 0, high }.limited()
     }
 }

@@ -9,7 +9,7 @@ pub use looking::lookup;
 pub use numbers::numbered;
 
 // Where a position lies.
-#[derive(Clone, Copy)]
+#[derive(Clone, Copy, Debug, PartialEq, Eq)]
 pub enum Answer {
     Outside,
     Inside,

@@ -1,23 +1,19 @@
 -- What opening a map with its sheet returns at each test, and what follows from its result.
 use Rattle.std.specs.Prelude.{Err, Ok, Result}
-use mathlib.Core.Path.{◌≡◌, refl, sym, ap, ◌∙◌}
-use mathlib.Core.Bool.{true}
+use mathlib.Core.Path.{◌≡◌, refl, sym, ◌∙◌}
+use mathlib.Core.Bool.{Bool, true}
 use mathlib.Core.List.{List, [], ◌∷◌}
 use Prim.Native.Nat.{ℕ, ◌+◌, ◌≤◌}
-use native.Mathlib.Omega.{arith}
-use Rattle.std.proofs.lemmas.Bool.Decides.{nat_tests}
-use lib.Dec.{eqb}
-use lib.ListN.{length, get_or}
+use lib.ListN.{length}
 use Rattle.integers.proofs.First.{none_first}
 use Rattle.replies.specs.declared.Refusal.{Refusal}
 use Rattle.replies.specs.declared.Refusal.TheVariants.{Map}
 use Rattle.replies.specs.Table.{Reply}
 use Rattle.replies.specs.Table.{refusal_of}
 use Rattle.sheet.specs.declared.Record.{Record}
-use Rattle.sheet.specs.declared.Record.TheVariants.{X}
 use Rattle.sheet.specs.Records.{records_of}
 use Rattle.sheet.specs.Check.{check_of}
-use Rattle.records.specs.Faces.{is_face, has_face, mark_of, Marks}
+use Rattle.records.specs.Faces.{has_face, Marks}
 use Rattle.cube.specs.declared.Point.{Point}
 use Rattle.cube.specs.declared.Cube.{Cube}
 use Rattle.cube.specs.Limits.{in_limits, Near}
@@ -27,28 +23,19 @@ use Rattle.zonemap.specs.declared.Found.{Found}
 use Rattle.zonemap.specs.Opening.{root_of, fault_of, place_or_first, found_of}
 use Rattle.zonemap.specs.Inner.{marked}
 use Rattle.zonemap.proofs.Finding.{opens-parts, opens-sizes, found_inside}
-use Rattle.zonemap.proofs.Opens.{found-good, found-bad, first_below, clash, good-told}
+use Rattle.zonemap.proofs.Opens.{found-good, found-bad, first_below, good-told}
 use Rattle.pair.specs.declared.Pair.{Pair}
 use Rattle.pair.specs.Pairs.{pair_refusal, pair_of, opened_of}
 
 -- ---- replies 1 to 5: r is what `check` returned
-module _ (s : List ℕ) (r : Reply) (e : r ≡ check_of s) where
-  pub sheet-refused : (why : Refusal) → r ≡ Err why → (map : List ℕ) (p : Point) → Err why ≡ opened_of s map p
-  unfolding opened_of pair_refusal
-  sheet-refused why h map p = rw (sym e ∙ h)
-
-  pub sheet-good : (n : ℕ) → r ≡ Ok n → refusal_of (check_of s) ≡ []
-  sheet-good n h = rw (sym e ∙ h)
+pub sheet-good : (s : List ℕ) (r : Reply) → r ≡ check_of s → (n : ℕ) → r ≡ Ok n → refusal_of (check_of s) ≡ []
+sheet-good s r e n h = rw (sym e ∙ h)
 
 -- ---- reply 9: the marks are those of the sheet's faces, and o is what `find` returned
-mark-is : (r : Record) → eqb (mark_of r) 1 ≡ is_face r
-mark-is r = grind (arith, nat_tests)
+named : (rs : List Record) (marks : List Bool) → Marks marks rs → marked marks ≡ has_face rs
+named rs marks m = λ i f. m.each f i
 
-named : (rs : List Record) (marks : List ℕ) → Marks marks rs → marked marks ≡ has_face rs
-unfolding has_face
-named rs marks m = λ i f. (ap (λ (n : ℕ). eqb n 1) (m.each f) ∙ mark-is (get_or rs f X)) i
-
-module _ (s : List ℕ) (good : refusal_of (check_of s) ≡ []) (marks : List ℕ) (m : Marks marks (records_of s)) (map : List ℕ) (p : Point) (o : Result Found ℕ) (e : o ≡ found_of (marked marks) map p) where
+module _ (s : List ℕ) (good : refusal_of (check_of s) ≡ []) (marks : List Bool) (m : Marks marks (records_of s)) (map : List ℕ) (p : Point) (o : Result Found ℕ) (e : o ≡ found_of (marked marks) map p) where
   found : o ≡ found_of (has_face (records_of s)) map p
   found = rw (named (records_of s) marks m) at e
 
@@ -63,9 +50,6 @@ module _ (s : List ℕ) (good : refusal_of (check_of s) ≡ []) (marks : List �
   map-refused at h = rw (good, found-bad (has_face (records_of s)) map p o found at h (λ n. Map n ∷ []) [])
 
 -- ---- what follows from its result
-pub shut-clash : (why : Refusal) (pair : Pair) → ◌≡◌ {A = Result Pair Refusal} (Err why) (Ok pair) → ⊥
-shut-clash why pair e = clash why pair e
-
 module _ (s map : List ℕ) (p : Point) (o : Result Pair Refusal) (e : o ≡ opened_of s map p) (pair : Pair) (h : o ≡ Ok pair) where
   told : (pair_refusal s map ≡ []) × (pair ≡ pair_of s map p)
   unfolding opened_of

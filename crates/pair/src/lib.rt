@@ -8,7 +8,7 @@ use cube::Root;
 pub use opening::open;
 
 // What is known of a good sheet and a map that opens with it: the number of records, the root, and the offset of the leaf that holds a point.
-#[derive(Clone, Copy)]
+#[derive(Clone, Copy, Debug, PartialEq, Eq)]
 pub struct Pair {
     pub count: usize,
     pub root: Root,

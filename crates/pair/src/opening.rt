@@ -9,11 +9,12 @@ use replies::Refusal;
 use zonemap::Found;
 
 // Opens a map with its sheet, and finds the leaf that holds a point. The sheet's own refusals come first.
+#[tactic(auto, unfolding(crate::specs::Pairs::opened_of, crate::specs::Pairs::pair_refusal))]
 pub fn open(sheet: &[u8], map: &[u8], p: Point) -> Result<Pair, Refusal>
     ensures { result ≡ opened_of sheet.now map.now p }
 {
     let count = sheet::check(sheet)?;
-    let faces = records::faces(sheet, count);
+    let faces = records::faces(sheet);
     let Found { root, at } = zonemap::find(map, &faces, p).map_err(Refusal::Map)?;
     Ok(Pair { count, root, at })
 }

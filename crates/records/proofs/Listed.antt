@@ -44,33 +44,39 @@ module _ (s : List ℕ) where
 pub record Listing (s offsets : List ℕ) (at n : ℕ) : Type 0 where
   pub among : n ≤ length (records_of s)
   pub here : at ≡ offset_of s n
-  pub long : length offsets ≡ 256
+  pub long : length offsets ≡ length (records_of s)
   pub each : (i : ℕ) → i < n → get_or offsets i 0 ≡ offset_of s i
 
-pub listing_start : (s offsets : List ℕ) → length offsets ≡ 256 → Listing s offsets 3 0
+pub listing_start : (s offsets : List ℕ) → length offsets ≡ length (records_of s) → Listing s offsets 3 0
 unfolding offset_of
 listing_start s offsets h = record { among = omega arith; here = refl; long = h; each = λ i k. absurd (omega arith) }
 
 module _ (s offsets : List ℕ) (at n : ℕ) (w : Listing s offsets at n) where
-  pub listing-end : length (records_of s) ≤ n → Offsets offsets s
-  listing-end h = record { long = w.long; each = λ i k. w.each i (omega arith) }
+  pub listing-end : length offsets ≤ n → Offsets offsets s
+  listing-end h = record { long = w.long; each = λ i k. w.each i (omega (arith, w.long)) }
 
   pub listing-low : at < 1540
   listing-low = omega (arith, w.here, offset-low s n w.among, w.among, records-few s)
 
-  module _ (more : n < length (records_of s)) where
+  module _ (left : n < length offsets) where
+    more : n < length (records_of s)
+    more = omega (arith, w.long)
+
     pub listing-stands : Stands s at
     listing-stands = rw w.here (stands-there s n more)
+
+    pub listing-inside : at < length s
+    listing-inside = omega (arith, listing-stands.inside)
 
     pub listing-next : Listing s (set offsets n at) (at + 1 + get_or s at 0) (n + 1)
     listing-next =
         record {
-          among = omega arith;
+          among = omega (arith, more);
           here = rw (next-offset s n, w.here);
           long = length-set offsets n at ∙ w.long;
           each = λ i h.
               by-test (eqb i n)
-              (λ t. rw (eqb-true i n t) (get_or-set_same offsets n at 0 (omega (arith, w.long, records-few s)) ∙ w.here))
+              (λ t. rw (eqb-true i n t) (get_or-set_same offsets n at 0 left ∙ w.here))
               (λ t. get_or-set_other offsets n i at 0 (eqb-false i n t) ∙ w.each i (omega (arith, eqb-false i n t)));
         }
 

@@ -1,5 +1,5 @@
 -- The faces of a sheet.
-use Rattle.std.specs.Prelude.{◌≡◌, ℕ, Bool, true, false, cond, List, length, get_or}
+use Rattle.std.specs.Prelude.{◌≡◌, ℕ, Bool, true, false, List, length, get_or}
 use Rattle.sheet.specs.declared.Record.{Record}
 use Rattle.sheet.specs.declared.Record.TheVariants.{Constant, X, Y, Z, Sum, Difference, Product, Square, Face, Both, Either, Complement}
 
@@ -23,11 +23,7 @@ unfoldable pub has_face : List Record → ℕ → Bool
 has_face rs f = is_face (get_or rs f X)
 
 -- ---- only inner contracts cite what follows
--- 1 for a face, 0 for any other record
-abbrev pub mark_of : Record → ℕ
-mark_of r = cond (is_face r) 1 0
-
--- a list with a mark for each record number
-pub record Marks (marks : List ℕ) (rs : List Record) : Type 0 where
+-- a list that says of each record number whether it names a face
+pub record Marks (marks : List Bool) (rs : List Record) : Type 0 where
   pub long : length marks ≡ 256
-  pub each : (f : ℕ) → get_or marks f 0 ≡ mark_of (get_or rs f X)
+  pub each : (f : ℕ) → get_or marks f false ≡ has_face rs f

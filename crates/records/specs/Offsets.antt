@@ -7,7 +7,7 @@ unfoldable pub offset_of : List ℕ → ℕ → ℕ
 offset_of s zero = 3
 offset_of s (suc n) = offset_of s n + 1 + get_or s (offset_of s n) 0
 
--- a list with the offset of each record
+-- the list of the records' offsets: as many as there are records, each where that record stands
 pub record Offsets (offsets s : List ℕ) : Type 0 where
-  pub long : length offsets ≡ 256
+  pub long : length offsets ≡ length (records_of s)
   pub each : (n : ℕ) → n < length (records_of s) → get_or offsets n 0 ≡ offset_of s n

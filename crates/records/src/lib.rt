@@ -1,4 +1,4 @@
-// The records of a checked sheet: their offsets, and what they are, by kind alone. The sheet is read again, but not checked again.
+// The records of a checked sheet: their offsets, what they are, by kind alone, and which are faces.
 
 #![tactic(auto)]
 

@@ -4,18 +4,15 @@ ghost use Rattle.std.specs.Prelude.{◌≡◌, length};
 ghost use Rattle.sheet.specs.Records.{records_of};
 ghost use Rattle.records.specs.Offsets.{Offsets};
 
-// Lists the offsets of the sheet's `count` records; the rest of the list is unchanged.
-pub fn list_offsets(s: &[u8], count: usize, offsets: &mut [u16])
-    requires fact_1 { count ≡ length (records_of s.now) }
-    requires fact_2 { length offsets.old ≡ 256 }
+// Lists the offset of each record of the sheet, in a list that has one place for each.
+pub fn list_offsets(s: &[u8], offsets: &mut [u16])
+    requires { length offsets.old ≡ length (records_of s.now) }
     ensures { Offsets offsets.new s.now }
 {
     let mut at = 3;
-    let mut n = 0;
-    while n < count {
+    for offset in offsets.iter_mut() {
         let next = at + 1 + s[at] as usize;
-        offsets[n] = at as u16;
+        *offset = at as u16;
         at = next;
-        n += 1;
     }
 }

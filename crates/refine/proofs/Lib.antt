@@ -1,4 +1,4 @@
-pub mod OverRoot
+pub mod Walks
 pub mod Outcomes
 pub mod Answers
 pub mod Grays

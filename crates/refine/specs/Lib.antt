@@ -1,1 +1,2 @@
 pub mod Refine
+pub mod Leaves

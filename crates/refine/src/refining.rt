@@ -6,7 +6,7 @@ ghost use Rattle.building.specs.Build.{outcome};
 ghost use Rattle.pair.specs.Pairs.{pair_refusal, pair_of};
 ghost use Rattle.refine.specs.Refine.{refine_of};
 
-use crate::deepening::over_root;
+use crate::deepening::Deeper;
 use cube::Point;
 use pair::Pair;
 use replies::Refusal;
@@ -19,18 +19,15 @@ pub fn refine(sheet: &[u8], map: &[u8], d: u8, out: &mut [u8]) -> Result<usize, 
     deepen(sheet, map, pair, d, out)
 }
 
-// Reply 6 for a smaller or illegal depth, then the rest.
+// Reply 6 for a smaller depth, then the rest, which begins with reply 6 for an illegal one.
 fn deepen(sheet: &[u8], map: &[u8], pair: Pair, d: u8, out: &mut [u8]) -> Result<usize, Refusal>
-    requires fact_1 { pair_refusal sheet.now map.now ≡ [] }
-    requires fact_2 { ((p : Point) × (pair ≡ pair_of sheet.now map.now p)) }
+    requires opens { pair_refusal sheet.now map.now ≡ [] }
+    requires opened { ((p : Point) × (pair ≡ pair_of sheet.now map.now p)) }
     ensures { outcome result out.new ≡ refine_of sheet.now map.now d out.old }
 {
     if d < pair.root.d {
         return Err(Refusal::Limits);
     }
     let root = pair.root.at_depth(d);
-    if !root.is_within() {
-        return Err(Refusal::Limits);
-    }
-    over_root(sheet, (pair.count - 1) as u8, map, root, out)
+    building::over_root(sheet, pair.count, &Deeper { map }, root, out)
 }

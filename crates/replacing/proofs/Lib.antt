@@ -1,5 +1,5 @@
 pub mod Pieces
 pub mod Places
 pub mod Stepping
-pub mod OneLeaf
 pub mod Grays
+pub mod OneLeaf

@@ -1,17 +1,14 @@
 -- A walk along the tree of a map. Only inner contracts cite this.
-use Rattle.std.specs.Prelude.{ℕ, ◌+◌, ◌-◌, ◌*◌, ◌^◌, ◌≤◌, ◌≡◌, Bool, true, cond, List, [], length}
-use Rattle.std.proofs.lemmas.List.Edits.{sets}
+use Rattle.std.specs.Prelude.{ℕ, ◌+◌, ◌-◌, ◌*◌, ◌^◌, ◌≤◌, ◌≡◌, Bool, true, List, [], length}
 use Rattle.cube.specs.declared.Root.{Root}
 use Rattle.cube.specs.declared.Cube.{Cube}
 use Rattle.cube.specs.Limits.{in_limits, at_depth}
 use Rattle.cube.specs.Cubes.{cube_at}
 use Rattle.colour.specs.declared.State.{State}
 use Rattle.zonemap.specs.declared.Leaf.{Leaf}
-use Rattle.zonemap.specs.Map.{leaves_bytes}
 use Rattle.zonemap.specs.Opening.{root_of, leaves_of, fault_of}
 use Rattle.zonemap.specs.Leaves.{nth_leaf, nth_place}
 use Rattle.tree.specs.Visit.{upto}
-use Rattle.replacing.specs.declared.Next.{Next}
 use Rattle.replacing.specs.Replace.{replaced_at}
 
 -- a map that opens, and its own root at the same or a greater depth
@@ -31,27 +28,18 @@ pub record Begins (map : List ℕ) (q : Cube) (i : ℕ) : Type 0 where
   pub end : number * 8 ^ below + 8 ^ below ≤ 8 ^ (root_of map).d
   pub deep : q.level ≤ (nth_leaf map i).level
 
-module _ (over : Cube → State) (d : ℕ) (map : List ℕ) where
-  -- what leaves i to j - 1 are replaced by
-  abbrev pub between : ℕ → ℕ → List Leaf
-  between i j = upto (λ n. replaced_at over d map (i + n)) (j - i)
+-- what leaves i to j - 1 are replaced by at depth d, given the state of each cube
+abbrev pub between : (Cube → State) → ℕ → List ℕ → ℕ → ℕ → List Leaf
+between over d map i j = upto (λ n. replaced_at over d map (i + n)) (j - i)
 
-  -- in the new map, with its 19 bytes before the leaves: the offset of what leaf i is replaced by
-  abbrev pub offset_of : ℕ → ℕ
-  offset_of i = 19 + 3 * length (upto (replaced_at over d map) i)
+-- what the walk of a cube asks, for a new depth d: leaf i begins the cube
+pub record Along (d : ℕ) (map : List ℕ) (q : Cube) (i : ℕ) : Type 0 where
+  pub opens : (named : ℕ → Bool) × (fault_of named map ≡ [])
+  pub depth : (root_of map).d ≤ d
+  pub begins : Begins map q i
 
-  -- what the walk of a cube asks: the next leaf begins it, and a buffer that is written to has room for all
-  pub record Along (q : Cube) (next : Next) (writing : Bool) (out : List ℕ) : Type 0 where
-    pub opens : (named : ℕ → Bool) × (fault_of named map ≡ [])
-    pub depth : (root_of map).d ≤ d
-    pub begins : Begins map q next.leaf
-    pub to : next.to ≡ offset_of next.leaf
-    pub room : writing ≡ true → offset_of (length (leaves_of map)) ≤ length out
-
-  -- what it leaves: the leaf after the cube is the next one, and what the leaves before it are replaced by is written, or only counted
-  pub record Passed (q : Cube) (next on : Next) (writing : Bool) (before after : List ℕ) : Type 0 where
-    pub later : next.leaf ≤ on.leaf
-    pub among : on.leaf ≤ length (leaves_of map)
-    pub place : nth_place map on.leaf ≡ nth_place map next.leaf + 8 ^ ((root_of map).d - q.level)
-    pub to : on.to ≡ offset_of on.leaf
-    pub bytes : after ≡ cond writing (sets before next.to (leaves_bytes (between next.leaf on.leaf))) before
+-- what it leaves: leaf j is the one after the cube
+pub record Passed (map : List ℕ) (q : Cube) (i j : ℕ) : Type 0 where
+  pub later : i ≤ j
+  pub among : j ≤ length (leaves_of map)
+  pub place : nth_place map j ≡ nth_place map i + 8 ^ ((root_of map).d - q.level)

@@ -1,4 +1,4 @@
-// The leaves of a map, each gray one replaced by the leaves of its cube at a greater depth: counted and written.
+// The leaves of a map, each gray one replaced by the leaves of its cube at a greater depth: handed to a sink, which counts or writes them.
 
 #![tactic(auto)]
 
@@ -7,10 +7,3 @@ mod seed;
 
 pub use along::walk;
 pub use seed::gray_map;
-
-// The number of the next leaf of the old map, and the offset in the new map of what it is replaced by.
-#[derive(Clone, Copy)]
-pub struct Next {
-    pub leaf: usize,
-    pub to: usize,
-}

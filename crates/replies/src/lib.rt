@@ -6,21 +6,21 @@ ghost use Rattle.std.specs.Prelude.{◌≡◌};
 ghost use Rattle.replies.specs.Table.{code_of, over_number, number_of};
 
 // An end of a record's bounds.
-#[derive(Clone, Copy)]
+#[derive(Clone, Copy, Debug, PartialEq, Eq)]
 pub enum End {
     Low,
     High,
 }
 
 // A record whose bounds pass the limit, and the end that does.
-#[derive(Clone, Copy)]
+#[derive(Clone, Copy, Debug, PartialEq, Eq)]
 pub struct Over {
     pub index: u8,
     pub end: End,
 }
 
 // Why a call refuses, in the order of test. Code 11 was dropped, and no refusal may take it.
-#[derive(Clone, Copy)]
+#[derive(Clone, Copy, Debug, PartialEq, Eq)]
 pub enum Refusal {
     Length,
     Version,
@@ -40,8 +40,7 @@ impl Over {
         ensures { result ≡ over_number self }
     {
         let twice = 2 * self.index as usize;
-        let end = self.end;
-        match end {
+        match self.end {
             End::Low => twice,
             End::High => twice + 1,
         }
@@ -70,16 +69,11 @@ impl Refusal {
         ensures { result ≡ number_of self }
     {
         match self {
-            Refusal::Length => 0,
-            Refusal::Version => 0,
+            Refusal::Length | Refusal::Version | Refusal::Limits | Refusal::NotInRoot => 0,
             Refusal::Record(at) => at,
-            Refusal::Operand(n) => n,
-            Refusal::Solid(n) => n,
-            Refusal::Limits => 0,
             Refusal::Map(at) => at,
+            Refusal::Operand(n) | Refusal::Solid(n) | Refusal::Short(n) => n,
             Refusal::OverRoot(over) => over.number(),
-            Refusal::Short(n) => n,
-            Refusal::NotInRoot => 0,
         }
     }
 }

@@ -141,7 +141,7 @@ module _ (named : ℕ → Bool) (over : Cube → State) (good : (level : ℕ) (q
     -- a leaf of the new map
     leaf-again : (p level : ℕ) → again p (leaf_of over (cube_at r' p level) ∷ []) ≡ replaced over (deep + m - level) (cube_at r' p level) (leaf_of over (cube_at r' p level))
     unfolding folded leaf_of cube_at
-    leaf-again p level = append-nil _
+    leaf-again p l = append-nil _
 
     flat-again : (p level left : ℕ) → is_gray over (cube_at r' p level) ≡ false → again p (leaf_of over (cube_at r' p level) ∷ []) ≡ leaves_below over left (cube_at r' p level)
     unfolding is_gray leaf_of

@@ -13,18 +13,12 @@ impl Record {
         ensures { result ≡ sort_of self }
     {
         match self {
-            Record::Constant(_) => Sort::Arithmetic,
-            Record::X => Sort::Arithmetic,
-            Record::Y => Sort::Arithmetic,
-            Record::Z => Sort::Arithmetic,
-            Record::Sum(_, _) => Sort::Arithmetic,
-            Record::Difference(_, _) => Sort::Arithmetic,
-            Record::Product(_, _) => Sort::Arithmetic,
+            Record::Constant(_) | Record::X | Record::Y | Record::Z => Sort::Arithmetic,
+            Record::Sum(_, _) | Record::Difference(_, _) | Record::Product(_, _) =>
+                Sort::Arithmetic,
             Record::Square(_) => Sort::Arithmetic,
             Record::Face(_, _) => Sort::Logical,
-            Record::Both(_, _) => Sort::Logical,
-            Record::Either(_, _) => Sort::Logical,
-            Record::Complement(_) => Sort::Logical,
+            Record::Both(_, _) | Record::Either(_, _) | Record::Complement(_) => Sort::Logical,
         }
     }
 
@@ -33,38 +27,23 @@ impl Record {
         ensures { result ≡ asked_of self }
     {
         match self {
-            Record::Constant(_) => Sort::Neither,
-            Record::X => Sort::Neither,
-            Record::Y => Sort::Neither,
-            Record::Z => Sort::Neither,
-            Record::Sum(_, _) => Sort::Arithmetic,
-            Record::Difference(_, _) => Sort::Arithmetic,
-            Record::Product(_, _) => Sort::Arithmetic,
-            Record::Square(_) => Sort::Arithmetic,
-            Record::Face(_, _) => Sort::Arithmetic,
-            Record::Both(_, _) => Sort::Logical,
-            Record::Either(_, _) => Sort::Logical,
-            Record::Complement(_) => Sort::Logical,
+            Record::Constant(_) | Record::X | Record::Y | Record::Z => Sort::Neither,
+            Record::Sum(_, _) | Record::Difference(_, _) | Record::Product(_, _) =>
+                Sort::Arithmetic,
+            Record::Square(_) | Record::Face(_, _) => Sort::Arithmetic,
+            Record::Both(_, _) | Record::Either(_, _) | Record::Complement(_) => Sort::Logical,
         }
     }
 
-    // The number of its first operand; 0 where it has none.
+    // The number of its first operand; 0 where it has none, as `first_of` says: there any number will do.
     pub fn first(self) -> u8
         ensures { result ≡ first_of self }
     {
         match self {
-            Record::Constant(_) => 0,
-            Record::X => 0,
-            Record::Y => 0,
-            Record::Z => 0,
-            Record::Sum(a, _) => a,
-            Record::Difference(a, _) => a,
-            Record::Product(a, _) => a,
-            Record::Square(a) => a,
-            Record::Face(_, a) => a,
-            Record::Both(a, _) => a,
-            Record::Either(a, _) => a,
-            Record::Complement(a) => a,
+            Record::Constant(_) | Record::X | Record::Y | Record::Z => 0,
+            Record::Sum(a, _) | Record::Difference(a, _) | Record::Product(a, _) => a,
+            Record::Square(a) | Record::Face(_, a) => a,
+            Record::Both(a, _) | Record::Either(a, _) | Record::Complement(a) => a,
         }
     }
 
@@ -73,18 +52,10 @@ impl Record {
         ensures { result ≡ second_of self }
     {
         match self {
-            Record::Constant(_) => 0,
-            Record::X => 0,
-            Record::Y => 0,
-            Record::Z => 0,
-            Record::Sum(_, b) => b,
-            Record::Difference(_, b) => b,
-            Record::Product(_, b) => b,
-            Record::Square(a) => a,
-            Record::Face(_, a) => a,
-            Record::Both(_, b) => b,
-            Record::Either(_, b) => b,
-            Record::Complement(a) => a,
+            Record::Constant(_) | Record::X | Record::Y | Record::Z => 0,
+            Record::Sum(_, b) | Record::Difference(_, b) | Record::Product(_, b) => b,
+            Record::Square(a) | Record::Face(_, a) => a,
+            Record::Both(_, b) | Record::Either(_, b) | Record::Complement(b) => b,
         }
     }
 }
@@ -94,19 +65,7 @@ impl Sort {
     fn suits(self, asked: Sort) -> bool
         ensures { result ≡ suits asked self }
     {
-        match asked {
-            Sort::Neither => true,
-            Sort::Arithmetic => match self {
-                Sort::Neither => false,
-                Sort::Arithmetic => true,
-                Sort::Logical => false,
-            },
-            Sort::Logical => match self {
-                Sort::Neither => false,
-                Sort::Arithmetic => false,
-                Sort::Logical => true,
-            },
-        }
+        asked == Sort::Neither || self == asked
     }
 }
 
@@ -114,10 +73,7 @@ impl Sort {
 fn met(asked: Sort, first: Sort, second: Sort) -> bool
     ensures { result ≡ are_met asked first second }
 {
-    if first.suits(asked) {
-        return second.suits(asked);
-    }
-    false
+    first.suits(asked) && second.suits(asked)
 }
 
 // The last record must be logical and is the solid; n is how many records there are.
@@ -125,8 +81,7 @@ fn solid(last: Sort, n: usize) -> Result<usize, Refusal>
     ensures { result ≡ solid_of last n }
 {
     match last {
-        Sort::Neither => Err(Refusal::Solid(n)),
-        Sort::Arithmetic => Err(Refusal::Solid(n)),
+        Sort::Neither | Sort::Arithmetic => Err(Refusal::Solid(n)),
         Sort::Logical => Ok(n),
     }
 }
@@ -139,10 +94,7 @@ pub fn check_records(s: &[u8]) -> Result<usize, Refusal>
     let mut last = Sort::Neither;
     let mut n = 0;
     let mut c = Cursor::start();
-    loop {
-        let Ok((r, next)) = c.read(s) else {
-            return solid(last, n);
-        };
+    while let Ok((r, next)) = c.read(s) {
         let first = sorts[r.first() as usize];
         let second = sorts[r.second() as usize];
         if !met(r.asked(), first, second) {
@@ -153,4 +105,5 @@ pub fn check_records(s: &[u8]) -> Result<usize, Refusal>
         n += 1;
         c = next;
     }
+    solid(last, n)
 }

@@ -18,11 +18,7 @@ impl Cursor {
         ensures { result ≡ read_at s.now self }
     {
         let at = self.at;
-        let left = self.left;
-        if left == 0 {
-            return Err(at);
-        }
-        if s.len() <= at {
+        if self.left == 0 || s.len() <= at {
             return Err(at);
         }
         let size = s[at] as usize;
@@ -32,7 +28,7 @@ impl Cursor {
         let r = table::row_at(s, at, size).ok_or(at)?;
         let next = Cursor {
             at: at + 1 + size,
-            left: left - 1,
+            left: self.left - 1,
         };
         Ok((r, next))
     }

@@ -8,86 +8,68 @@ use crate::{Comparison, Record};
 
 impl Comparison {
     // How the faces of a sheet of this version compare.
+    #[tactic(auto, unfolding(crate::specs::Table::comparison_of))]
     pub fn of(version: u8) -> Comparison
         ensures { result ≡ comparison_of version }
     {
         if version == 2 {
-            return Comparison::LessThan;
+            Comparison::LessThan
+        } else {
+            Comparison::AtMost
         }
-        Comparison::AtMost
     }
 }
 
+#[tactic(auto, unfolding(crate::specs::Table::row_of))]
 fn no_operand(kind: u8) -> Option<Record>
     ensures { result ≡ row_of AtMost 1 kind 0 0 (pos 0) }
 {
-    if kind == 2 {
-        return Some(Record::X);
+    match kind {
+        2 => Some(Record::X),
+        3 => Some(Record::Y),
+        4 => Some(Record::Z),
+        _ => None,
     }
-    if kind == 3 {
-        return Some(Record::Y);
-    }
-    if kind == 4 {
-        return Some(Record::Z);
-    }
-    None
 }
 
+#[tactic(auto, unfolding(crate::specs::Table::row_of))]
 fn one_operand(by: Comparison, kind: u8, a: u8) -> Option<Record>
     ensures { result ≡ row_of by 2 kind a 0 (pos 0) }
 {
-    if kind == 8 {
-        return Some(Record::Square(a));
+    match kind {
+        8 => Some(Record::Square(a)),
+        16 => Some(Record::Face(by, a)),
+        19 => Some(Record::Complement(a)),
+        _ => None,
     }
-    if kind == 16 {
-        return Some(Record::Face(by, a));
-    }
-    if kind == 19 {
-        return Some(Record::Complement(a));
-    }
-    None
 }
 
+#[tactic(auto, unfolding(crate::specs::Table::row_of))]
 fn two_operands(kind: u8, a: u8, b: u8) -> Option<Record>
     ensures { result ≡ row_of AtMost 3 kind a b (pos 0) }
 {
-    if kind == 5 {
-        return Some(Record::Sum(a, b));
+    match kind {
+        5 => Some(Record::Sum(a, b)),
+        6 => Some(Record::Difference(a, b)),
+        7 => Some(Record::Product(a, b)),
+        17 => Some(Record::Both(a, b)),
+        18 => Some(Record::Either(a, b)),
+        _ => None,
     }
-    if kind == 6 {
-        return Some(Record::Difference(a, b));
-    }
-    if kind == 7 {
-        return Some(Record::Product(a, b));
-    }
-    if kind == 17 {
-        return Some(Record::Both(a, b));
-    }
-    if kind == 18 {
-        return Some(Record::Either(a, b));
-    }
-    None
 }
 
 // The row that matches the record whose count byte, `size`, is at `at`.
+#[tactic(auto, unfolding(crate::specs::Table::row_at, crate::specs::Table::row_of))]
 pub fn row_at(s: &[u8], at: usize, size: usize) -> Option<Record>
-    requires fact_1 { size ≡ get_or s.now at 0 }
-    requires fact_2 { at + size < length s.now }
+    requires count_byte { size ≡ get_or s.now at 0 }
+    requires inside { at + size < length s.now }
     ensures { result ≡ row_at s.now at }
 {
-    if size == 1 {
-        return no_operand(s[at + 1]);
+    match size {
+        1 => no_operand(s[at + 1]),
+        2 => one_operand(Comparison::of(s[2]), s[at + 1], s[at + 2]),
+        3 => two_operands(s[at + 1], s[at + 2], s[at + 3]),
+        5 if s[at + 1] == 1 => Some(Record::Constant(bigendian::i32_at(s, at + 2))),
+        _ => None,
     }
-    if size == 2 {
-        return one_operand(Comparison::of(s[2]), s[at + 1], s[at + 2]);
-    }
-    if size == 3 {
-        return two_operands(s[at + 1], s[at + 2], s[at + 3]);
-    }
-    if size == 5 {
-        if s[at + 1] == 1 {
-            return Some(Record::Constant(bigendian::i32_at(s, at + 2)));
-        }
-    }
-    None
 }

@@ -13,8 +13,10 @@ use Rattle.sheet.specs.Operands.{sort_of}
 use Rattle.cube.specs.declared.Cube.{Cube}
 use Rattle.cube.specs.Points.{CubeInside}
 use Rattle.colour.specs.declared.State.{State}
-use Rattle.carried.specs.Words.{state_over, Word, word, renamed, twin_after, rename_all, needed, kept, is_logical}
+use Rattle.carried.specs.Words as carried
+use Rattle.carried.specs.Words.{state_over, word, renamed, twin_after, rename_all, needed, kept, is_logical}
 use Rattle.tape.specs.declared.Tape.{Tape}
+use Rattle.tape.specs.declared.Word.{Word}
 use Rattle.tape.specs.Memory.{word_in, words_in, uses_in, state_in}
 use Rattle.tape.specs.Working.{OfSort}
 use Rattle.tape.specs.Shortening.{Shortened}
@@ -41,7 +43,7 @@ same-sort twin (Either a b) = refl
 same-sort twin (Complement a) = refl
 
 module _ (rs : List Record) where
-  kept_in : (logical : Bool) (wanted : ℕ → Bool) (ws : List ℕ) → AllIn rs logical (map word_in ws) → AllIn rs logical (map word_in (kept word_in uses_in wanted ws))
+  kept_in : (logical : Bool) (wanted : ℕ → Bool) (ws : List Word) → AllIn rs logical (map word_in ws) → AllIn rs logical (map word_in (kept word_in uses_in wanted ws))
   unfolding kept
   kept_in logical wanted [] h = tt
   kept_in logical wanted (w ∷ ws) h =
@@ -51,43 +53,43 @@ module _ (rs : List Record) where
 
   module _ (s : ℕ → State) where
     -- a word in memory that is a renamed one
-    one_in : (logical : Bool) (twin : ℕ → ℕ) (x w : Word) → x ≡ word w.number (renamed twin w.what) → OfSort logical w.what → OfSort logical x.what
-    one_in logical twin x w e h = ap (λ (v : Word). is_logical (sort_of v.what)) e ∙ ap is_logical (same-sort twin w.what) ∙ h
+    one_in : (logical : Bool) (twin : ℕ → ℕ) (x w : carried.Word) → x ≡ word w.number (renamed twin w.what) → OfSort logical w.what → OfSort logical x.what
+    one_in logical twin x w e h = ap (λ (v : carried.Word). is_logical (sort_of v.what)) e ∙ ap is_logical (same-sort twin w.what) ∙ h
 
-    same_number : (twin : ℕ → ℕ) (x w : Word) → x ≡ word w.number (renamed twin w.what) → x.number ≡ w.number
-    same_number twin x w e = ap (λ (v : Word). v.number) e
+    same_number : (twin : ℕ → ℕ) (x w : carried.Word) → x ≡ word w.number (renamed twin w.what) → x.number ≡ w.number
+    same_number twin x w e = ap (λ (v : carried.Word). v.number) e
 
-    renamed-in : (logical : Bool) (xs : List ℕ) (ws : List Word) (twin : ℕ → ℕ) → map word_in xs ≡ rename_all s twin ws → AllIn rs logical ws → AllIn rs logical (map word_in xs)
+    renamed-in : (logical : Bool) (xs : List Word) (ws : List carried.Word) (twin : ℕ → ℕ) → map word_in xs ≡ rename_all s twin ws → AllIn rs logical ws → AllIn rs logical (map word_in xs)
     unfolding rename_all
     renamed-in logical [] ws twin e h = tt
     renamed-in logical (x ∷ xs) [] twin e h = let z : suc (length (map word_in xs)) ≡ 0 = ap length e in absurd (omega (arith, z))
     renamed-in logical (x ∷ xs) (w ∷ ws) twin e h =
-        let head : word_in x ≡ word w.number (renamed twin w.what) = ap (λ (l : List Word). get_or l 0 (word_in x)) e in
+        let head : word_in x ≡ word w.number (renamed twin w.what) = ap (λ (l : List carried.Word). get_or l 0 (word_in x)) e in
         let rest : map word_in xs ≡ rename_all s (twin_after s twin w) ws = ap (drop 1) e in
         (one_in logical twin (word_in x) w head h.0, rw (same_number twin (word_in x) w head) h.1, rw (same_number twin (word_in x) w head) h.2, renamed-in logical xs ws (twin_after s twin w) rest h.3)
 
-    parts_in : (xs ys : List ℕ) (ws vs : List Word) (twin : ℕ → ℕ) → length xs ≡ length ws → map word_in (xs ++ ys) ≡ rename_all s twin (ws ++ vs) → (logical other : Bool)
+    parts_in : (xs ys : List Word) (ws vs : List carried.Word) (twin : ℕ → ℕ) → length xs ≡ length ws → map word_in (xs ++ ys) ≡ rename_all s twin (ws ++ vs) → (logical other : Bool)
         → AllIn rs logical ws → AllIn rs other vs → AllIn rs logical (map word_in xs) × AllIn rs other (map word_in ys)
     unfolding rename_all
     parts_in [] ys [] vs twin l e logical other h k = (tt, renamed-in other ys vs twin e k)
     parts_in [] ys (w ∷ ws) vs twin l e logical other h k = let z : ⊥ = omega arith in absurd z
     parts_in (x ∷ xs) ys [] vs twin l e logical other h k = let z : ⊥ = omega arith in absurd z
     parts_in (x ∷ xs) ys (w ∷ ws) vs twin l e logical other h k =
-        let head : word_in x ≡ word w.number (renamed twin w.what) = ap (λ (l : List Word). get_or l 0 (word_in x)) e in
+        let head : word_in x ≡ word w.number (renamed twin w.what) = ap (λ (l : List carried.Word). get_or l 0 (word_in x)) e in
         let rest : map word_in (xs ++ ys) ≡ rename_all s (twin_after s twin w) (ws ++ vs) = ap (drop 1) e in
         let more = parts_in xs ys ws vs (twin_after s twin w) (omega arith) rest logical other h.3 k in
         ((one_in logical twin (word_in x) w head h.0, rw (same_number twin (word_in x) w head) h.1, rw (same_number twin (word_in x) w head) h.2, more.0), more.1)
 
   -- ---- what `shorten` leaves
-  module _ (q : Cube) (tape₀ : List ℕ) (t : Tape) (carries : Carries rs q tape₀ t) (classes faces : List ℕ) (stand : Stand rs q tape₀ t classes faces)
-      (tape : List ℕ) (r : Tape) (s : Shortened tape₀ t.from t.mid t.to t.solid classes faces tape r.from r.mid r.to r.solid) where
+  module _ (q : Cube) (tape₀ : List Word) (t : Tape) (carries : Carries rs q tape₀ t) (colours : List State) (stand : Stand rs q tape₀ t colours)
+      (tape : List Word) (r : Tape) (s : Shortened tape₀ t.from t.mid t.to t.solid colours tape r.from r.mid r.to r.solid) where
     sorts : AllIn rs false (map word_in s.works) × AllIn rs true (map word_in s.states)
     sorts =
         let p = carries.parts in
         let long : length s.works ≡ length (words_in tape₀ t.from t.mid) =
         s.cut ∙ sym (length-map (slice t.from t.mid tape₀) word_in ∙ length-slice t.from t.mid tape₀ (omega (arith, p.second, p.among))) in
-        parts_in (state_in classes faces) s.works s.states (words_in tape₀ t.from t.mid) (words_in tape₀ t.mid t.to) (λ a. a) long
-        (s.renames ∙ ap (rename_all (state_in classes faces) (λ a. a)) (in_parts rs q tape₀ t carries)) false true carries.works carries.states
+        parts_in (state_in colours) s.works s.states (words_in tape₀ t.from t.mid) (words_in tape₀ t.mid t.to) (λ a. a) long
+        (s.renames ∙ ap (rename_all (state_in colours) (λ a. a)) (in_parts rs q tape₀ t carries)) false true carries.works carries.states
 
     pub shorter-carries : Carries rs q tape r
     shorter-carries =
@@ -96,7 +98,7 @@ module _ (rs : List Record) where
           works = rw s.first-kept (kept_in false s.wanted s.works sorts.0);
           states = rw s.second-kept (kept_in true _ s.states sorts.1);
           carried =
-              shortened-carried rs q (in_place rs) tape₀ t.from t.mid t.to t.solid carries.carried classes faces stand tape r.from r.mid r.to r.solid s;
+              shortened-carried rs q (in_place rs) tape₀ t.from t.mid t.to t.solid carries.carried colours stand tape r.from r.mid r.to r.solid s;
         }
 
     pub shorter-stays : Stays t.from tape₀ tape
@@ -106,7 +108,7 @@ module _ (rs : List Record) where
     shorter-before = omega (arith, s.parts.first, s.parts.second, s.ends)
 
 -- ---- along a walk
-pub stays-later : (early late : ℕ) → early ≤ late → (tape₀ tape : List ℕ) → Stays early tape₀ tape → Stays late tape₀ tape
+pub stays-later : (early late : ℕ) → early ≤ late → (tape₀ tape : List Word) → Stays early tape₀ tape → Stays late tape₀ tape
 stays-later early late h tape₀ tape s =
     let n : early + (late - early) ≡ late = omega arith in
     record {
@@ -114,12 +116,12 @@ stays-later early late h tape₀ tape s =
       after = ap (λ (x : ℕ). drop x tape) (sym n) ∙ sym (drop-drop (late - early) early tape) ∙ ap (drop (late - early)) s.after ∙ drop-drop (late - early) early tape₀ ∙ ap (λ (x : ℕ). drop x tape₀) n;
     }
 
-stays-words : (from : ℕ) (tape₀ tape : List ℕ) → Stays from tape₀ tape → (i j : ℕ) → from ≤ i → i ≤ j → j ≤ length tape → words_in tape i j ≡ words_in tape₀ i j
+stays-words : (from : ℕ) (tape₀ tape : List Word) → Stays from tape₀ tape → (i j : ℕ) → from ≤ i → i ≤ j → j ≤ length tape → words_in tape i j ≡ words_in tape₀ i j
 stays-words from tape₀ tape s i j h k l = ap (map word_in) (slice-later i j tape tape₀ k l s.same (stays-later from i h tape₀ tape s).after)
 
 -- a tape that is carried down from a cube still is, if its words stay, and serves every cube inside
-module _ (rs : List Record) (q : Cube) (tape₀ : List ℕ) (t : Tape) (carries : Carries rs q tape₀ t) where
-  pub carries-inner : (child : Cube) → CubeInside child q → (tape : List ℕ) → Stays t.from tape₀ tape → Carries rs child tape t
+module _ (rs : List Record) (q : Cube) (tape₀ : List Word) (t : Tape) (carries : Carries rs q tape₀ t) where
+  pub carries-inner : (child : Cube) → CubeInside child q → (tape : List Word) → Stays t.from tape₀ tape → Carries rs child tape t
   carries-inner child inside tape s =
       let p = carries.parts in
       let whole : t.to ≤ length tape = omega (arith, s.same, p.among) in
@@ -133,11 +135,11 @@ module _ (rs : List Record) (q : Cube) (tape₀ : List ℕ) (t : Tape) (carries 
       }
 
   -- the solid's state, once the tape was worked out
-  pub solid-stands : (classes faces : List ℕ) → Stand rs q tape₀ t classes faces → state_in classes faces t.solid ≡ state_over rs q (length rs - 1)
-  solid-stands classes faces stand = stand t.solid carries.carried.there ∙ carries.carried.same q (inside-itself q)
+  pub solid-stands : (colours : List State) → Stand rs q tape₀ t colours → state_in colours t.solid ≡ state_over rs q (length rs - 1)
+  solid-stands colours stand = stand t.solid carries.carried.there ∙ carries.carried.same q (inside-itself q)
 
-pub stays_same : (from : ℕ) (tape : List ℕ) → Stays from tape tape
+pub stays_same : (from : ℕ) (tape : List Word) → Stays from tape tape
 stays_same from tape = record { same = refl; after = refl }
 
-pub stays_on : (from : ℕ) (tape₀ tape₁ tape₂ : List ℕ) → Stays from tape₀ tape₁ → Stays from tape₁ tape₂ → Stays from tape₀ tape₂
+pub stays_on : (from : ℕ) (tape₀ tape₁ tape₂ : List Word) → Stays from tape₀ tape₁ → Stays from tape₁ tape₂ → Stays from tape₀ tape₂
 stays_on from tape₀ tape₁ tape₂ s t = record { same = t.same ∙ s.same; after = t.after ∙ s.after }

@@ -1,189 +1,122 @@
--- The two loops that work a tape out: what is left, worked out from here, gives what the whole gives.
+-- The two loops that work words out: those that are left, worked out from here, give what all give.
 use Rattle.std.specs.Prelude.{Err, Ok, Result}
 use mathlib.Core.Path.{◌≡◌, refl, sym, ap, ◌∙◌}
-use mathlib.Core.Bool.{Bool, true, false}
 use mathlib.Core.List.{List, [], ◌∷◌, map}
-use Prim.Native.Nat.{ℕ, suc, ◌+◌, ◌%◌, ◌≤◌, ◌<◌}
+use Prim.Native.Nat.{ℕ, zero, suc, ◌+◌, ◌≤◌, ◌<◌}
 use native.Mathlib.Omega.{arith}
 use borrow.Author.Tests.{eqb-true, eqb-false}
 use lib.Dec.{eqb}
-use lib.IntN.{ℤ, pos}
-use lib.ListN.{length, get_or, set, length-set}
-use lib.Seq.{slice, slice_empty, slice-cons, get_or-set_same, get_or-set_other}
-use mir.Syntax.{w64}
-use mir.Val.{to_z, of_z}
+use lib.ListN.{length, get_or, drop, set, length-set}
+use lib.Seq.{drop-cons, get_or-set_same, get_or-set_other}
 use Rattle.integers.proofs.Order.{by-test}
 use Rattle.interval.specs.declared.Interval.{Interval}
-use Rattle.interval.specs.Rules.{from}
 use Rattle.interval.specs.Limit.{SmallEnds, bounded_of}
 use Rattle.interval.proofs.Facts.{ends-within, bounded-within, within-is}
-use Rattle.interval.proofs.Limit.{limit-back}
 use Rattle.replies.specs.declared.End.{End}
 use Rattle.cube.specs.declared.Cube.{Cube}
 use Rattle.colour.specs.declared.State.{State}
-use Rattle.colour.specs.States.{class_of, face_of}
-use Rattle.colour.specs.Held.{Held, held_at, state_by}
-use Rattle.colour.proofs.Otherwise.{back-again}
-use Rattle.carried.specs.Words.{Word, put}
-use Rattle.tape.specs.Memory.{record_in, word_in, words_in, state_in}
-use Rattle.tape.specs.Working.{OfSort, AllOf, Part, Places, bounds_word, run_bounds, AllSmall, Filled, state_word, run_states, Stated}
+use Rattle.colour.specs.declared.State.TheVariants.{Out}
+use Rattle.colour.specs.Bounds.{none}
+use Rattle.colour.proofs.Arms.{small-set}
+use Rattle.carried.specs.Words as carried
+use Rattle.carried.specs.Words.{put}
+use Rattle.tape.specs.declared.Word.{Word}
+use Rattle.tape.specs.Memory.{word_in, bounds_in, state_in}
+use Rattle.tape.specs.Working.{bounds_word, run_bounds, AllSmall, Filled, state_word, run_states, Stated}
 
--- ---- the next word
-module _ (logical : Bool) (tape : List ℕ) (from to : ℕ) (part : Part logical tape from to) where
-  module _ (i : ℕ) (h : i < to) (w : ℕ) (is : w ≡ get_or tape i 0) where
-    pub next_word : words_in tape i to ≡ word_in w ∷ words_in tape (suc i) to
-    next_word = ap (map word_in) (slice-cons i to tape 0 h part.among ∙ ap (λ (x : ℕ). x ∷ slice (suc i) to tape) (sym is))
+-- ---- the words from i on
+abbrev pub left : List Word → ℕ → List carried.Word
+left words i = map word_in (drop i words)
 
-pub no_word : (tape : List ℕ) (i to : ℕ) → i ≡ to → words_in tape i to ≡ []
-no_word tape i to e = ap (map word_in) (ap (λ (x : ℕ). slice x to tape) e ∙ slice_empty to tape)
+next_word : (words : List Word) (i : ℕ) (d : Word) → i < length words → left words i ≡ word_in (get_or words i d) ∷ left words (suc i)
+next_word words i d h = ap (map word_in) (drop-cons words i d h)
+
+no_word : (words : List Word) (i : ℕ) → length words ≤ i → left words i ≡ []
+no_word [] zero h = refl
+no_word [] (suc i) h = refl
+no_word (w ∷ words) zero h = absurd (omega arith)
+no_word (w ∷ words) (suc i) h = no_word words i (omega arith)
+
+-- a value stored in a list that is read by number
+stored : {A : Type 0} (l : List A) (n : ℕ) (v d : A) → n < length l → (λ a. get_or (set l n v) a d) ≡ put (λ a. get_or l a d) n v
+unfolding put
+stored l n v d h = λ i a. at a i
+  where
+    at : (a : ℕ) → get_or (set l n v) a d ≡ put (λ a. get_or l a d) n v a
+    at a = by-test (eqb a n) (λ t. rw t (ap (λ k. get_or (set l n v) k d) (eqb-true a n t) ∙ get_or-set_same l n v d h)) (λ t. rw t (get_or-set_other l n a v d (eqb-false a n t)))
 
 -- ---- bounds
--- an interval stored by its ends
-stored-bounds : (low high : List ℤ) (n : ℕ) (l h : ℤ) → n < length low → n < length high → (a : ℕ) → held_at (set low n l) (set high n h) a ≡ put (held_at low high) n (from l h) a
-unfolding put
-stored-bounds low high n l h j k a =
-    by-test (eqb a n)
-    (λ t. rw t (ap (held_at (set low n l) (set high n h)) (eqb-true a n t) ∙ (λ i. from (get_or-set_same low n l (pos 0) j i) (get_or-set_same high n h (pos 0) k i))))
-    (λ t. rw t (λ i. from (get_or-set_other low n a l (pos 0) (eqb-false a n t) i) (get_or-set_other high n a h (pos 0) (eqb-false a n t) i)))
+module _ (words : List Word) (q : Cube) (bounds₀ : List Interval) where
+  pub record Bounding (bounds : List Interval) (i : ℕ) : Type 0 where
+    pub long : length bounds ≡ 256
+    pub within : (a : ℕ) → SmallEnds (bounds_in bounds a)
+    pub small : AllSmall q (bounds_in bounds) (left words i)
+    pub rest : run_bounds q (bounds_in bounds) (left words i) ≡ run_bounds q (bounds_in bounds₀) (map word_in words)
 
-abbrev ends : ℤ → ℤ → Interval
-ends = from
+  pub bounding-start : length bounds₀ ≡ 256 → ((a : ℕ) → SmallEnds (bounds_in bounds₀ a)) → AllSmall q (bounds_in bounds₀) (map word_in words) → Bounding bounds₀ 0
+  bounding-start h w k = record { long = h; within = w; small = k; rest = refl }
 
-put_small : (b : ℕ → Interval) (n : ℕ) (v : Interval) → ((a : ℕ) → SmallEnds (b a)) → SmallEnds v → (a : ℕ) → SmallEnds (put b n v a)
-unfolding put
-put_small b n v h k a = by-test (eqb a n) (λ t. rw t k) (λ t. rw t (h a))
-
-module _ (tape : List ℕ) (from to : ℕ) (q : Cube) (low₀ high₀ : List ℤ) where
-  pub record Bounding (low high : List ℤ) (i : ℕ) : Type 0 where
-    pub least : from ≤ i
-    pub most : i ≤ to
-    pub part : Part false tape from to
-    pub held : Held low high
-    pub sort : AllOf false (words_in tape i to)
-    pub small : AllSmall q (held_at low high) (words_in tape i to)
-    pub rest : run_bounds q (held_at low high) (words_in tape i to) ≡ run_bounds q (held_at low₀ high₀) (words_in tape from to)
-
-  pub bounding-start : Part false tape from to → AllSmall q (held_at low₀ high₀) (words_in tape from to) → Held low₀ high₀ → Bounding low₀ high₀ from
-  bounding-start p s h = record { least = omega arith; most = p.ordered; part = p; held = h; sort = p.sort; small = s; rest = refl }
-
-  module _ (low high : List ℤ) (i : ℕ) (k : Bounding low high i) where
-    module _ (more : i < to) (w : ℕ) (is : w ≡ get_or tape i 0) where
-      cut : words_in tape i to ≡ word_in w ∷ words_in tape (suc i) to
-      cut = next_word false tape from to k.part i more w is
+  module _ (bounds : List Interval) (i : ℕ) (k : Bounding bounds i) where
+    module _ (more : i < length words) (d : Word) where
+      abbrev w : Word
+      w = get_or words i d
 
       abbrev made : Interval
-      made = bounds_word q (held_at low high) (word_in w)
+      made = bounds_word q (bounds_in bounds) (word_in w)
 
-      pub bounding-sort : OfSort false (record_in w)
-      bounding-sort = let s : AllOf false (word_in w ∷ words_in tape (suc i) to) = rw cut at k.sort in s.0
-
-      smalls : AllSmall q (held_at low high) (word_in w ∷ words_in tape (suc i) to)
-      smalls = rw cut at k.small
+      smalls : AllSmall q (bounds_in bounds) (word_in w ∷ left words (suc i))
+      smalls = rw (next_word words i d more) at k.small
 
       -- so the loop does not return early
-      pub bounding-never : (b : Result Interval End) → b ≡ bounded_of made → (end : End) → b ≡ Err end → Filled q (words_in tape from to) low₀ high₀ low high
+      pub bounding-never : (b : Result Interval End) → b ≡ bounded_of made → (end : End) → b ≡ Err end → Filled q (map word_in words) bounds₀ bounds
       bounding-never b e end p = let z : Ok made ≡ Err end = bounded-within made (ends-within made smalls.0) ∙ sym e ∙ p in let y : ◌≡◌ {A = ℕ} 0 1 = cc in absurd (omega arith)
 
-      module _ (l h : ℤ) (v : Interval) (is-v : v ≡ made) (is-l : l ≡ v.low) (is-h : h ≡ v.high) where
-        stored : held_at (set low (w % 256) l) (set high (w % 256) h) ≡ put (held_at low high) (w % 256) made
-        stored = (λ j a. stored-bounds low high (w % 256) l h (omega (arith, k.held.lows)) (omega (arith, k.held.highs)) a j) ∙ ap (put (held_at low high) (w % 256)) ((λ j. ends (is-l j) (is-h j)) ∙ is-v)
+      pub bounding-next : w.number < 256 → (b : Result Interval End) (v : Interval) → b ≡ bounded_of made → b ≡ Ok v → Bounding (set bounds w.number v) (i + 1)
+      unfolding run_bounds
+      bounding-next few b v e f =
+          let is = within-is b made e v f in
+          let one : i + 1 ≡ suc i = omega arith in
+          let there : bounds_in (set bounds w.number v) ≡ put (bounds_in bounds) w.number made =
+          stored bounds w.number v none (omega (arith, k.long)) ∙ ap (put (bounds_in bounds) w.number) is in
+          record {
+            long = length-set bounds w.number v ∙ k.long;
+            within = small-set bounds w.number v (rw is smalls.0) k.within;
+            small = rw (one, there) smalls.1;
+            rest = rw (one, there) (sym (ap (run_bounds q (bounds_in bounds)) (next_word words i d more)) ∙ k.rest);
+          }
 
-        pub bounding-next : Bounding (set low (w % 256) l) (set high (w % 256) h) (i + 1)
-        unfolding run_bounds
-        bounding-next =
-            let one : i + 1 ≡ suc i = omega arith in
-            let s : AllOf false (word_in w ∷ words_in tape (suc i) to) = rw cut at k.sort in
-            record {
-              least = omega (arith, k.least);
-              most = omega arith;
-              part = k.part;
-              held = record {
-                lows = length-set low (w % 256) l ∙ k.held.lows;
-                highs = length-set high (w % 256) h ∙ k.held.highs;
-                small = λ a. rw (ap (λ (f : ℕ → Interval). f a) stored) (put_small (held_at low high) (w % 256) made k.held.small smalls.0 a);
-              };
-              sort = rw one s.1;
-              small = rw (one, stored) smalls.1;
-              rest = rw (one, stored) (sym (ap (run_bounds q (held_at low high)) cut) ∙ k.rest);
-            }
+      -- as the struct keeps them
+      pub bounding-small : w.number < 256 → (b : Result Interval End) (v : Interval) → b ≡ bounded_of made → b ≡ Ok v → (a : ℕ) → SmallEnds (bounds_in (set bounds w.number v) a)
+      bounding-small few b v e f = (bounding-next few b v e f).within
 
-    -- the same as the loop has it: the word is read from the tape, and the ends come back from their bits
-    pub bounding-again : i < to → (b : Result Interval End) (v : Interval) → b ≡ bounded_of (bounds_word q (held_at low high) (word_in (get_or tape i 0))) → b ≡ Ok v
-        → Bounding (set low (get_or tape i 0 % 256) (to_z w64 (of_z w64 v.low))) (set high (get_or tape i 0 % 256) (to_z w64 (of_z w64 v.high))) (i + 1)
-    bounding-again more b v e f =
-        let w = get_or tape i 0 in
-        let is = within-is b (made more w refl) e v f in
-        let small : SmallEnds v = rw is (smalls more w refl).0 in
-        bounding-next more w refl _ _ v is (limit-back v.low small.low) (limit-back v.high small.high)
-
-    pub bounding-end : to ≤ i → Filled q (words_in tape from to) low₀ high₀ low high
+    pub bounding-end : length words ≤ i → Filled q (map word_in words) bounds₀ bounds
     unfolding run_bounds
     bounding-end stop =
-        let none : words_in tape i to ≡ [] = no_word tape i to (omega (arith, k.most)) in
-        record { held = k.held; each = λ a. sym (ap (λ (ws : List Word). run_bounds q (held_at low high) ws a) none) ∙ ap (λ (f : ℕ → Interval). f a) k.rest }
+        record { each = λ a. sym (ap (λ (ws : List carried.Word). run_bounds q (bounds_in bounds) ws a) (no_word words i stop)) ∙ ap (λ (f : ℕ → Interval). f a) k.rest }
 
 -- ---- states
--- a state stored by its class and face
-stored-state : (classes faces : List ℕ) (n : ℕ) (v : State) → n < length classes → n < length faces → (a : ℕ) → state_in (set classes n (class_of v)) (set faces n (face_of v)) a ≡ put (state_in classes faces) n v a
-unfolding put
-stored-state classes faces n v h k a =
-    by-test (eqb a n)
-    (λ t. rw t (ap (state_in (set classes n (class_of v)) (set faces n (face_of v))) (eqb-true a n t)
-    ∙ (λ i. state_by (get_or-set_same classes n (class_of v) 0 h i) (get_or-set_same faces n (face_of v) 0 k i)) ∙ back-again v))
-    (λ t. rw t (λ i. state_by (get_or-set_other classes n a (class_of v) 0 (eqb-false a n t) i) (get_or-set_other faces n a (face_of v) 0 (eqb-false a n t) i)))
+module _ (words : List Word) (b : ℕ → Interval) (colours₀ : List State) where
+  pub record Stating (colours : List State) (i : ℕ) : Type 0 where
+    pub long : length colours ≡ 256
+    pub rest : run_states b (state_in colours) (left words i) ≡ run_states b (state_in colours₀) (map word_in words)
 
-module _ (tape : List ℕ) (from to : ℕ) (low high : List ℤ) (classes₀ faces₀ : List ℕ) where
-  abbrev b : ℕ → Interval
-  b = held_at low high
+  pub stating-start : length colours₀ ≡ 256 → Stating colours₀ 0
+  stating-start h = record { long = h; rest = refl }
 
-  pub record Stating (classes faces : List ℕ) (i : ℕ) : Type 0 where
-    pub least : from ≤ i
-    pub most : i ≤ to
-    pub part : Part true tape from to
-    pub places : Places low high classes faces
-    pub sort : AllOf true (words_in tape i to)
-    pub rest : run_states b (state_in classes faces) (words_in tape i to) ≡ run_states b (state_in classes₀ faces₀) (words_in tape from to)
+  module _ (colours : List State) (i : ℕ) (k : Stating colours i) where
+    pub stating-next : i < length words → (d : Word) → (get_or words i d).number < 256 → (v : State) → v ≡ state_word b (state_in colours) (word_in (get_or words i d))
+        → Stating (set colours (get_or words i d).number v) (i + 1)
+    unfolding run_states
+    stating-next more d few v is-v =
+        let w = get_or words i d in
+        let one : i + 1 ≡ suc i = omega arith in
+        let there : state_in (set colours w.number v) ≡ put (state_in colours) w.number v = stored colours w.number v Out (omega (arith, k.long)) in
+        record {
+          long = length-set colours w.number v ∙ k.long;
+          rest = rw (one, there, is-v) (sym (ap (run_states b (state_in colours)) (next_word words i d more)) ∙ k.rest);
+        }
 
-  pub stating-start : Part true tape from to → Places low high classes₀ faces₀ → Stating classes₀ faces₀ from
-  stating-start p h = record { least = omega arith; most = p.ordered; part = p; places = h; sort = p.sort; rest = refl }
-
-  module _ (classes faces : List ℕ) (i : ℕ) (k : Stating classes faces i) where
-    module _ (more : i < to) (w : ℕ) (is : w ≡ get_or tape i 0) where
-      abbrev given : State
-      given = state_word b (state_in classes faces) (word_in w)
-
-      sorts : AllOf true (word_in w ∷ words_in tape (suc i) to)
-      sorts = rw (next_word true tape from to k.part i more w is) at k.sort
-
-      pub stating-sort : OfSort true (record_in w)
-      stating-sort = sorts.0
-
-      pub stating-next : (v : State) → v ≡ given → (c f : ℕ) → c ≡ class_of v → f ≡ face_of v → Stating (set classes (w % 256) c) (set faces (w % 256) f) (i + 1)
-      unfolding run_states
-      stating-next v is-v c f is_c is_f =
-          let one : i + 1 ≡ suc i = omega arith in
-          let stored : state_in (set classes (w % 256) (class_of v)) (set faces (w % 256) (face_of v)) ≡ put (state_in classes faces) (w % 256) v =
-          λ j a. stored-state classes faces (w % 256) v (omega (arith, k.places.classes-long)) (omega (arith, k.places.faces-long)) a j in
-          rw (is_c, is_f)
-          (record {
-            least = omega (arith, k.least);
-            most = omega arith;
-            part = k.part;
-            places = record {
-              held = k.places.held;
-              classes-long = length-set classes (w % 256) (class_of v) ∙ k.places.classes-long;
-              faces-long = length-set faces (w % 256) (face_of v) ∙ k.places.faces-long;
-            };
-            sort = rw one sorts.1;
-            rest = rw (one, stored, is-v) (sym (ap (run_states b (state_in classes faces)) (next_word true tape from to k.part i more w is)) ∙ k.rest);
-          })
-
-    pub stating-end : to ≤ i → Stated b (words_in tape from to) classes₀ faces₀ classes faces
+    pub stating-end : length words ≤ i → Stated b (map word_in words) colours₀ colours
     unfolding run_states
     stating-end stop =
-        let none : words_in tape i to ≡ [] = no_word tape i to (omega (arith, k.most)) in
-        record {
-          classes-long = k.places.classes-long;
-          faces-long = k.places.faces-long;
-          each = λ a. sym (ap (λ (ws : List Word). run_states b (state_in classes faces) ws a) none) ∙ ap (λ (f : ℕ → State). f a) k.rest;
-        }
+        record { each = λ a. sym (ap (λ (ws : List carried.Word). run_states b (state_in colours) ws a) (no_word words i stop)) ∙ ap (λ (f : ℕ → State). f a) k.rest }

@@ -1,6 +1,4 @@
 pub mod Slices
-pub mod ByKind
-pub mod Words
 pub mod Filling
 pub mod Owning
 pub mod Phases
@@ -10,7 +8,6 @@ pub mod Twins
 pub mod Renaming
 pub mod Shortened
 pub mod Carrying
-pub mod Packed
 pub mod Putting
 pub mod Placing
 pub mod Starting

@@ -2,40 +2,37 @@
 use mathlib.Core.Path.{◌≡◌, refl, ap, ◌∙◌}
 use mathlib.Core.Bool.{Bool, ◌&&◌, ◌||◌}
 use mathlib.Core.List.{List, [], ◌∷◌, ◌++◌}
-use Prim.Native.Nat.{ℕ, ◌+◌, ◌%◌, ◌≤◌, ◌<◌}
+use Prim.Native.Nat.{ℕ, ◌+◌, ◌≤◌, ◌<◌}
 use native.Mathlib.Omega.{arith}
-use borrow.Author.Tests.{eqb-true, eqb-false}
+use borrow.Author.Tests.{eqb-true, eqb-false, ltb-true, ltb-false}
 use lib.Dec.{eqb, ltb}
-use borrow.Author.Tests.{ltb-true, ltb-false}
-use lib.ListN.{length, set, length-set, get_or-eq_default}
+use lib.ListN.{length, set, length-set, get_or-eq_default, replicate}
 use lib.Seq.{get_or-set_same, get_or-set_other}
 use Rattle.integers.proofs.Order.{by-test}
 use Rattle.carried.specs.Words.{Word, needed, kept}
 use Rattle.tape.specs.Shortening.{twin_in, Own}
 
 pub record Owning (found : List ℕ) (i : ℕ) : Type 0 where
-  pub most : i ≤ 256
   pub long : length found ≡ 256
   pub done : (a : ℕ) → a < i → twin_in found a ≡ a
 
-pub owning-start : (found : List ℕ) → length found ≡ 256 → Owning found 0
-owning-start found h = record { most = omega arith; long = h; done = λ a l. let z : ⊥ = omega arith in absurd z }
+pub owning-start : Owning (replicate 256 0) 0
+owning-start = record { long = refl; done = λ a l. absurd (omega arith) }
 
-pub owning-next : (found : List ℕ) (i : ℕ) → Owning found i → i < 256 → Owning (set found i (i % 256)) (i + 1)
+pub owning-next : (found : List ℕ) (i : ℕ) → Owning found i → i < 256 → Owning (set found i i) (i + 1)
 owning-next found i k h =
     record {
-      most = omega arith;
-      long = length-set found i (i % 256) ∙ k.long;
+      long = length-set found i i ∙ k.long;
       done = λ a l. by-test (eqb a i)
-          (λ t. let e : a ≡ i = eqb-true a i t in ap (twin_in (set found i (i % 256))) e ∙ get_or-set_same found i (i % 256) i (omega (arith, k.long)) ∙ (let z : i % 256 ≡ a = omega arith in z))
-          (λ t. let e : (a ≡ i) → ⊥ = eqb-false a i t in get_or-set_other found i a (i % 256) a e ∙ k.done a (omega (arith, e)));
+          (λ t. rw (eqb-true a i t) (get_or-set_same found i i i (omega (arith, k.long))))
+          (λ t. get_or-set_other found i a i a (eqb-false a i t) ∙ k.done a (omega (arith, eqb-false a i t)));
     }
 
-pub owning-end : (found : List ℕ) (i : ℕ) → Owning found i → (i < 256 → ⊥) → Own found
+pub owning-end : (found : List ℕ) (i : ℕ) → Owning found i → 256 ≤ i → Own found
 owning-end found i k stop =
     record {
       long = k.long;
-      each = λ a. by-test (ltb a 256) (λ t. k.done a (let z : a < 256 = ltb-true a 256 t in omega (arith, stop, k.most, z)))
+      each = λ a. by-test (ltb a 256) (λ t. k.done a (let z : a < 256 = ltb-true a 256 t in omega (arith, z)))
           (λ t. get_or-eq_default found a (let z : 256 ≤ a = ltb-false a 256 t in omega (arith, k.long, z)));
     }
 

@@ -1,7 +1,7 @@
 -- The entries of constants are put in place, as the loop meets it; then the entries of all records stand as they are lent.
 use Rattle.std.specs.Prelude.{Some}
 use mathlib.Core.Path.{◌≡◌, refl, sym, ap, ◌∙◌}
-use mathlib.Core.Bool.{true, false, true≢false}
+use mathlib.Core.Bool.{true, true≢false}
 use mathlib.Core.List.{List}
 use Prim.Native.Nat.{ℕ, ◌+◌, ◌≤◌, ◌<◌, ◌^◌}
 use native.Mathlib.Omega.{arith}
@@ -10,33 +10,25 @@ use lib.Dec.{eqb, ltb}
 use lib.IntN.{ℤ, pos, nat_abs}
 use lib.ListN.{length, get_or, set, length-set, get_or-eq_default}
 use lib.Seq.{get_or-set_same, get_or-set_other}
-use mir.Syntax.{w32, w64}
-use mir.Val.{SFits, to_z, of_z}
-use Rattle.integers.proofs.Machine.{abs-most, wide_back}
 use Rattle.integers.proofs.Order.{by-test}
+use Rattle.interval.specs.declared.Interval.{Interval}
 use Rattle.interval.specs.Rules.{only}
-use Rattle.interval.proofs.Limit.{limit-back}
+use Rattle.interval.specs.Limit.{SmallEnds}
 use Rattle.sheet.specs.declared.Record.{Record}
 use Rattle.sheet.specs.declared.Record.TheVariants.{Constant, X, Y, Z, Sum, Difference, Product, Square, Face, Both, Either, Complement}
 use Rattle.sheet.specs.Table.{row_at}
 use Rattle.sheet.specs.Records.{records_of}
 use Rattle.sheet.specs.Operands.{sort_of}
-use Rattle.records.specs.Offsets.{Offsets}
-use Rattle.colour.specs.Held.{Held, held_at, state_by}
-use Rattle.colour.specs.declared.State.TheVariants.{Mixed}
+use Rattle.colour.specs.declared.State.{State}
+use Rattle.colour.specs.declared.State.TheVariants.{Out, Mixed}
+use Rattle.colour.specs.Bounds.{none}
+use Rattle.colour.proofs.Arms.{small-set}
 use Rattle.carried.specs.Words.{is_logical}
+use Rattle.records.specs.Offsets.{Offsets}
+use Rattle.records.proofs.Walking.{Walking, walking_start, walking-end, walking-next, walking-record}
 use Rattle.tape.specs.Listing.{start_of, Placed}
-use Rattle.tape.specs.Memory.{state_in}
+use Rattle.tape.specs.Memory.{bounds_in, state_in}
 use Rattle.tape.specs.Lent.{is_constant, Lent}
-use Rattle.records.proofs.Walking.{Walking, walking_start, walking-end, walking-few, walking-next, walking-record}
-
--- ---- what a record's bounds begin as
-pub constant-arm : (r : Record) (c : ℤ) → r ≡ Constant c → SFits w32 c
-    → (to_z w64 (of_z w64 (to_z w32 (of_z w32 c))) ≡ start_of r) × (nat_abs (to_z w64 (of_z w64 (to_z w32 (of_z w32 c)))) ≤ 2 ^ 31)
-constant-arm r c e f = rw (e, wide_back c f) (refl, omega (arith, f.sfits, abs-most c))
-
-pub other_arm : (r q : Record) → r ≡ q → pos 0 ≡ start_of q → (pos 0 ≡ start_of r) × (nat_abs (pos 0) ≤ 2 ^ 31)
-other_arm r q e z = rw e (z, omega arith)
 
 -- ---- a list whose first n entries are known, and one more
 stored : {A : Type 0} (l : List A) (d v : A) (f : ℕ → A) (n : ℕ) → n < length l → v ≡ f n → ((a : ℕ) → a < n → get_or l a d ≡ f a)
@@ -46,77 +38,39 @@ stored l d v f n h e known a k =
     (λ t. rw (eqb-true a n t) (get_or-set_same l n v d h ∙ e))
     (λ t. get_or-set_other l n a v d (eqb-false a n t) ∙ known a (omega (arith, eqb-false a n t)))
 
-held_more : (low high : List ℤ) → Held low high → (n : ℕ) (c : ℤ) → n < 256 → nat_abs c ≤ 2 ^ 31 → Held (set low n c) (set high n c)
-held_more low high h n c k small =
-    record {
-      lows = length-set low n c ∙ h.lows;
-      highs = length-set high n c ∙ h.highs;
-      small = λ a.
-          by-test (eqb a n)
-          (λ t. rw (eqb-true a n t, get_or-set_same low n c (pos 0) (omega (arith, h.lows)), get_or-set_same high n c (pos 0) (omega (arith, h.highs)))
-          (record { low = omega arith; high = omega arith }))
-          (λ t. rw (get_or-set_other low n a c (pos 0) (eqb-false a n t), get_or-set_other high n a c (pos 0) (eqb-false a n t)) (h.small a));
-    }
-
 -- ---- the loop
-pub record Placing (s offsets : List ℕ) (count : ℕ) (low high : List ℤ) (classes : List ℕ) (n : ℕ) : Type 0 where
-  pub walk : Walking s offsets count n
-  pub held : Held low high
-  pub long : length classes ≡ 256
-  pub lows : (a : ℕ) → a < n → get_or low a (pos 0) ≡ start_of (get_or (records_of s) a X)
-  pub highs : (a : ℕ) → a < n → get_or high a (pos 0) ≡ start_of (get_or (records_of s) a X)
-  pub classed : (a : ℕ) → a < n → get_or classes a 0 ≡ 4
+pub record Placing (s offsets : List ℕ) (bounds : List Interval) (colours : List State) (n : ℕ) : Type 0 where
+  pub walk : Walking s offsets n
+  pub bounds-long : length bounds ≡ 256
+  pub colours-long : length colours ≡ 256
+  pub small : (a : ℕ) → SmallEnds (bounds_in bounds a)
+  pub each : (a : ℕ) → a < n → bounds_in bounds a ≡ only (start_of (get_or (records_of s) a X))
+  pub mixed : (a : ℕ) → a < n → state_in colours a ≡ Mixed
 
-module _ (s offsets : List ℕ) (count : ℕ) (low high : List ℤ) (classes : List ℕ) where
-  pub placing-start : Offsets offsets s → count ≡ length (records_of s) → Held low high → length classes ≡ 256 → Placing s offsets count low high classes 0
-  placing-start o e h k =
-      record {
-        walk = walking_start s offsets count o e;
-        held = h;
-        long = k;
-        lows = λ a l. absurd (omega arith);
-        highs = λ a l. absurd (omega arith);
-        classed = λ a l. absurd (omega arith);
-      }
+module _ (s offsets : List ℕ) (bounds : List Interval) (colours : List State) where
+  pub placing-start : Offsets offsets s → length bounds ≡ 256 → length colours ≡ 256 → ((a : ℕ) → SmallEnds (bounds_in bounds a)) → Placing s offsets bounds colours 0
+  placing-start o h k small =
+      record { walk = walking_start s offsets o; bounds-long = h; colours-long = k; small = small; each = λ a l. absurd (omega arith); mixed = λ a l. absurd (omega arith) }
 
-  module _ (n : ℕ) (p : Placing s offsets count low high classes n) where
-    pub placing-end : count ≤ n → Placed (records_of s) low high classes
-    placing-end h =
-        let e : n ≡ length (records_of s) = walking-end s offsets count n p.walk h ∙ p.walk.all in
+  module _ (n : ℕ) (p : Placing s offsets bounds colours n) where
+    pub placing-next : n < length offsets → (r : Record) → row_at s (get_or offsets n 0) ≡ Some r → (c : ℤ) → (c ≡ start_of r) × (nat_abs c ≤ 2 ^ 31)
+        → Placing s offsets (set bounds n (only c)) (set colours n Mixed) (n + 1)
+    placing-next left r row c e =
+        let is : c ≡ start_of (get_or (records_of s) n X) = e.0 ∙ ap start_of (sym (walking-record s offsets n p.walk left r row)) in
+        let few : n < 256 = omega (arith, p.walk.few) in
         record {
-          held = p.held;
-          long = p.long;
-          lows = λ a l. p.lows a (omega (arith, e));
-          highs = λ a l. p.highs a (omega (arith, e));
-          classed = λ a l. p.classed a (omega (arith, e));
+          walk = walking-next s offsets n p.walk left;
+          bounds-long = length-set bounds n (only c) ∙ p.bounds-long;
+          colours-long = length-set colours n Mixed ∙ p.colours-long;
+          small = small-set bounds n (only c) (record { low = omega (arith, e.1); high = omega (arith, e.1) }) p.small;
+          each = stored bounds none (only c) (λ a. only (start_of (get_or (records_of s) a X))) n (omega (arith, few, p.bounds-long)) (ap only is) p.each;
+          mixed = stored colours Out Mixed (λ a. Mixed) n (omega (arith, few, p.colours-long)) refl p.mixed;
         }
 
-    module _ (left : n < count) where
-      abbrev few : n < 256
-      few = walking-few s offsets count n p.walk left
-
-      pub placing-low : n < length low
-      placing-low = omega (arith, few, p.held.lows)
-
-      pub placing-high : n < length high
-      placing-high = omega (arith, few, p.held.highs)
-
-      pub placing-class : n < length classes
-      placing-class = omega (arith, few, p.long)
-
-      pub placing-next : (r : Record) → row_at s (get_or offsets n 0) ≡ Some r → (c : ℤ) → (c ≡ start_of r) × (nat_abs c ≤ 2 ^ 31)
-          → Placing s offsets count (set low n (to_z w64 (of_z w64 c))) (set high n (to_z w64 (of_z w64 c))) (set classes n 4) (n + 1)
-      placing-next r row c e =
-          let is : c ≡ start_of (get_or (records_of s) n X) = e.0 ∙ ap start_of (sym (walking-record s offsets count n p.walk left r row)) in
-          rw (limit-back c (omega (arith, e.1)))
-          (record {
-            walk = walking-next s offsets count n p.walk left;
-            held = held_more low high p.held n c few e.1;
-            long = length-set classes n 4 ∙ p.long;
-            lows = stored low (pos 0) c (λ a. start_of (get_or (records_of s) a X)) n placing-low is p.lows;
-            highs = stored high (pos 0) c (λ a. start_of (get_or (records_of s) a X)) n placing-high is p.highs;
-            classed = stored classes 0 4 (λ a. 4) n placing-class refl p.classed;
-          })
+    pub placing-end : length offsets ≤ n → Placed (records_of s) bounds colours
+    placing-end h =
+        let all = walking-end s offsets n p.walk h in
+        record { each = λ a l. p.each a (omega (arith, all)); mixed = λ a l. p.mixed a (omega (arith, all)) }
 
 -- ---- what is lent
 logical-start : (r : Record) → is_logical (sort_of r) ≡ true → start_of r ≡ pos 0
@@ -136,22 +90,13 @@ logical-start (Complement a) e = refl
 not_there : (rs : List Record) (a : ℕ) (c : ℤ) → length rs ≤ a → get_or rs a X ≡ Constant c → ⊥
 not_there rs a c h e = true≢false (sym (ap is_constant (sym (get_or-eq_default rs X h) ∙ e)))
 
-module _ (rs : List Record) (low high : List ℤ) (classes faces : List ℕ) (p : Placed rs low high classes) where
-  begins : (a : ℕ) → a < length rs → held_at low high a ≡ only (start_of (get_or rs a X))
-  begins a h = rw (p.lows a h, p.highs a h)
-
-  mixed : (a : ℕ) → a < length rs → state_in classes faces a ≡ Mixed
-  unfolding state_by
-  mixed a h = rw (p.classed a h)
-
-  pub lent : length faces ≡ 256 → Lent rs low high classes faces
-  lent f =
-      record {
-        places = record { held = p.held; classes-long = p.long; faces-long = f };
-        bounds = λ a h s. begins a h ∙ ap only (logical-start (get_or rs a X) s);
-        states = λ a h s. mixed a h;
-        constants = λ a c e.
-            by-test (ltb a (length rs))
-            (λ t. begins a (ltb-true a (length rs) t) ∙ ap (λ (r : Record). only (start_of r)) e)
-            (λ t. absurd (not_there rs a c (ltb-false a (length rs) t) e));
-      }
+pub lent : (rs : List Record) (bounds : List Interval) (colours : List State) → Placed rs bounds colours → Lent rs bounds colours
+lent rs bounds colours p =
+    record {
+      bounds = λ a h s. p.each a h ∙ ap only (logical-start (get_or rs a X) s);
+      states = λ a h s. p.mixed a h;
+      constants = λ a c e.
+          by-test (ltb a (length rs))
+          (λ t. p.each a (ltb-true a (length rs) t) ∙ ap (λ (r : Record). only (start_of r)) e)
+          (λ t. absurd (not_there rs a c (ltb-false a (length rs) t) e));
+    }

@@ -5,7 +5,6 @@ use mathlib.Core.Bool.{Bool, true, false, cond, not, true≢false}
 use mathlib.Core.List.{List, [], ◌∷◌, ◌++◌, map, map-append}
 use Prim.Native.Nat.{ℕ, zero, suc, ◌+◌, ◌-◌, ◌≤◌, ◌<◌}
 use native.Mathlib.Omega.{arith}
-use lib.IntN.{ℤ}
 use lib.ListN.{length, get_or, drop, length-append}
 use lib.Seq.{slice}
 use Rattle.integers.proofs.Order.{by-test}
@@ -18,13 +17,14 @@ use Rattle.sheet.specs.Check.{check_of}
 use Rattle.sheet.proofs.Good.{check-parts, sorted-good, records-few, good-some}
 use Rattle.sheet.proofs.Unmet.{none-unmet}
 use Rattle.cube.specs.declared.Cube.{Cube}
-use Rattle.carried.specs.Words.{Word, Carried, word, own_word, chosen, is_logical, is_worked, first_words}
+use Rattle.carried.specs.Words as words
+use Rattle.carried.specs.Words.{Carried, word, own_word, chosen, is_logical, is_worked, first_words}
 use Rattle.carried.proofs.First.{first-carried}
+use Rattle.tape.specs.declared.Word.{Word}
 use Rattle.tape.specs.Memory.{word_in, words_in}
 use Rattle.tape.specs.Working.{OfSort}
-use Rattle.tape.specs.Lent.{is_constant, in_place, Lent, AllIn, Carries, Starts}
-use Rattle.tape.specs.Listing.{listed_of, Listed, Placed}
-use Rattle.tape.proofs.Placing.{lent}
+use Rattle.tape.specs.Lent.{is_constant, in_place, AllIn, Carries, Starts}
+use Rattle.tape.specs.Listing.{listed_of, Listed}
 use Rattle.tape.proofs.Slices.{slice-split}
 
 -- ---- the words that are listed
@@ -37,10 +37,10 @@ listed-sort true n r e = e
 listed-sort false n r e = by-test (is_logical (sort_of r)) (λ t. absurd (true≢false (sym (rw t at e)))) (λ t. t)
 
 module _ (rs : List Record) where
-  abbrev listed : Bool → ℕ → List Word
+  abbrev listed : Bool → ℕ → List words.Word
   listed logical n = chosen (listed_of logical) rs n
 
-  abbrev one : Bool → ℕ → List Word
+  abbrev one : Bool → ℕ → List words.Word
   one logical n = cond (listed_of logical (own_word rs n)) (own_word rs n ∷ []) []
 
   -- a record is in one list at most
@@ -56,7 +56,7 @@ module _ (rs : List Record) where
   both-few (suc n) = omega (arith, both-few n, one-most n, length-append (listed false n) (one false n), length-append (listed true n) (one true n))
 
   -- and each list has records of its sort
-  in-append : (logical : Bool) (ws vs : List Word) → AllIn rs logical ws → AllIn rs logical vs → AllIn rs logical (ws ++ vs)
+  in-append : (logical : Bool) (ws vs : List words.Word) → AllIn rs logical ws → AllIn rs logical vs → AllIn rs logical (ws ++ vs)
   in-append logical [] vs t u = u
   in-append logical (w ∷ ws) vs t u = (t.0, t.1, t.2, in-append logical ws vs t.3 u)
 
@@ -73,7 +73,7 @@ module _ (rs : List Record) where
   works-are : (n : ℕ) → listed false n ≡ chosen (is_worked (in_place rs)) rs n
   unfolding chosen
   works-are zero = refl
-  works-are (suc n) = ap (λ (l : List Word). l ++ one false n) (works-are n)
+  works-are (suc n) = ap (λ (l : List words.Word). l ++ one false n) (works-are n)
 
 -- the last record
 last-is : (r : Record) (rs : List Record) → last_sort (r ∷ rs) ≡ sort_of (get_or (r ∷ rs) (length rs) X)
@@ -109,44 +109,40 @@ module _ (s : List ℕ) (count : ℕ) (good : check_of s ≡ Ok count) where
       let some : 0 < length rs = omega (arith, start-count, start-some) in
       first-carried rs q (none-unmet rs sorted.1) (in_place rs) some (last-logical rs sorted.2 some)
 
-  abbrev ws : Bool → List Word
-  ws logical = chosen (listed_of logical) rs count
+  abbrev ws : Bool → List words.Word
+  ws logical = chosen (listed_of logical) rs (length rs)
 
   few : length (ws false) + length (ws true) ≤ 256
-  few = omega (arith, both-few rs count, start-count, records-few s)
+  few = omega (arith, both-few rs (length rs), records-few s)
 
   -- there is room for both lists
-  module _ (tape : List ℕ) (long : 256 ≤ length tape) where
-    pub start-works : length tape - 256 + length (ws false) ≤ length tape
+  module _ (tape : List Word) (from : ℕ) (long : from + 256 ≤ length tape) where
+    pub start-works : from + length (ws false) ≤ length tape
     start-works = omega (arith, few, long)
 
-    module _ (tape₁ : List ℕ) (mid : ℕ) (l : Listed (ws false) (length tape - 256) tape tape₁ mid) where
+    module _ (tape₁ : List Word) (mid : ℕ) (l : Listed (ws false) from tape tape₁ mid) where
       pub start-states : mid + length (ws true) ≤ length tape₁
       start-states = omega (arith, few, long, l.ends, l.same)
 
-      module _ (tape₂ : List ℕ) (to : ℕ) (k : Listed (ws true) mid tape₁ tape₂ to) where
-        abbrev from : ℕ
-        from = length tape - 256
-
+      module _ (tape₂ : List Word) (to : ℕ) (k : Listed (ws true) mid tape₁ tape₂ to) where
         first : words_in tape₂ from mid ≡ ws false
-        first = ap (λ (t : List ℕ). map word_in (drop from t)) k.before ∙ l.words
+        first = ap (λ (t : List Word). map word_in (drop from t)) k.before ∙ l.words
 
         both : words_in tape₂ from to ≡ first_words (in_place rs) rs
         both =
             ap (map word_in) (slice-split from mid to tape₂ (omega (arith, l.ends)) (omega (arith, k.ends)) (omega (arith, start-states, k.ends, k.same)))
             ∙ map-append word_in (slice from mid tape₂) (slice mid to tape₂)
-            ∙ ap₂ (λ (x y : List Word). x ++ y) first k.words
-            ∙ ap₂ (λ (x : List Word) (n : ℕ). x ++ chosen (listed_of true) rs n) (works-are rs count ∙ ap (chosen (is_worked (in_place rs)) rs) start-count) start-count
+            ∙ ap₂ (λ (x y : List words.Word). x ++ y) first k.words
+            ∙ ap (λ (x : List words.Word). x ++ chosen (listed_of true) rs (length rs)) (works-are rs (length rs))
 
         carries : (q : Cube) → Carries rs q tape₂ (record { from = from; mid = mid; to = to; solid = count - 1 })
         carries q =
             record {
               parts = record { first = omega (arith, l.ends); second = omega (arith, k.ends); among = omega (arith, start-states, k.ends, k.same) };
-              works = rw first (listed_in rs false count (omega (arith, start-count)));
-              states = rw k.words (listed_in rs true count (omega (arith, start-count)));
+              works = rw first (listed_in rs false (length rs) (omega arith));
+              states = rw k.words (listed_in rs true (length rs) (omega arith));
               carried = rw (both, start-count) (carried q);
             }
 
-        pub start-lent : (low high : List ℤ) (classes faces : List ℕ) → Placed rs low high classes → length faces ≡ 256
-            → Lent rs low high classes faces × Starts rs tape₂ (record { from = from; mid = mid; to = to; solid = count - 1 })
-        start-lent low high classes faces p f = (lent rs low high classes faces p f, carries)
+        pub starts : Starts rs tape₂ (record { from = from; mid = mid; to = to; solid = count - 1 })
+        starts = carries

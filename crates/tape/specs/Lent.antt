@@ -1,16 +1,20 @@
 -- What is lent down to the children of a cube: a tape, and the places of the records' entries. Only inner contracts cite this.
 use Rattle.std.specs.Prelude.{ℕ, ◌<◌, ◌≡◌, Bool, true, false, List, [], ◌∷◌, ℤ, length, get_or, drop}
+use Rattle.interval.specs.declared.Interval.{Interval}
 use Rattle.interval.specs.Rules.{only}
 use Rattle.sheet.specs.declared.Record.{Record}
 use Rattle.sheet.specs.declared.Record.TheVariants.{Constant, X, Y, Z, Sum, Difference, Product, Square, Face, Both, Either, Complement}
 use Rattle.cube.specs.declared.Cube.{Cube}
 use Rattle.colour.specs.declared.State.TheVariants.{Mixed}
 use Rattle.colour.specs.Bounds.{none}
-use Rattle.colour.specs.Held.{held_at}
-use Rattle.carried.specs.Words.{state_over, Word, listed, Carried}
+use Rattle.colour.specs.declared.State.{State}
+use Rattle.carried.specs.Words.{state_over, listed, Carried}
+use Rattle.carried.specs.Words as carried
 use Rattle.tape.specs.declared.Tape.{Tape}
-use Rattle.tape.specs.Memory.{words_in, state_in}
-use Rattle.tape.specs.Working.{OfSort, Places}
+use Rattle.tape.specs.declared.Work.{Work}
+use Rattle.tape.specs.declared.Word.{Word}
+use Rattle.tape.specs.Memory.{words_in, bounds_in, state_in}
+use Rattle.tape.specs.Working.{OfSort}
 use Rattle.tape.specs.Shortening.{Parts}
 
 -- Constants are the same over every cube, so their entries are put in place once and are on no tape.
@@ -33,33 +37,39 @@ module _ (rs : List Record) where
   in_place a = is_constant (get_or rs a X)
 
   -- The entries of records have their places by number. A logical record has no bounds, nothing is said of an arithmetic one, and constants are in place.
-  pub record Lent (low high : List ℤ) (classes faces : List ℕ) : Type 0 where
-    pub places : Places low high classes faces
-    pub bounds : (a : ℕ) → a < length rs → OfSort true (get_or rs a X) → held_at low high a ≡ none
-    pub states : (a : ℕ) → a < length rs → OfSort false (get_or rs a X) → state_in classes faces a ≡ Mixed
-    pub constants : (a : ℕ) (c : ℤ) → get_or rs a X ≡ Constant c → held_at low high a ≡ only c
+  pub record Lent (entries : List Interval) (colours : List State) : Type 0 where
+    pub bounds : (a : ℕ) → a < length rs → OfSort true (get_or rs a X) → bounds_in entries a ≡ none
+    pub states : (a : ℕ) → a < length rs → OfSort false (get_or rs a X) → state_in colours a ≡ Mixed
+    pub constants : (a : ℕ) (c : ℤ) → get_or rs a X ≡ Constant c → bounds_in entries a ≡ only c
 
   -- words of records of one sort
-  abbrev pub AllIn : Bool → List Word → Type 0
+  abbrev pub AllIn : Bool → List carried.Word → Type 0
   AllIn logical [] = Unit {0}
   AllIn logical (w ∷ ws) = OfSort logical w.what × OfSort logical (get_or rs w.number X) × (w.number < length rs) × AllIn logical ws
 
   -- a tape is what is carried down from a cube
-  pub record Carries (q : Cube) (tape : List ℕ) (t : Tape) : Type 0 where
+  pub record Carries (q : Cube) (tape : List Word) (t : Tape) : Type 0 where
     pub parts : Parts tape t.from t.mid t.to
     pub works : AllIn false (words_in tape t.from t.mid)
     pub states : AllIn true (words_in tape t.mid t.to)
     pub carried : Carried rs q in_place (words_in tape t.from t.to) t.solid
 
   -- what is carried to the root: it is right over every cube
-  abbrev pub Starts : List ℕ → Tape → Type 0
+  abbrev pub Starts : List Word → Tape → Type 0
   Starts tape t = (q : Cube) → Carries q tape t
 
   -- the records of a tape have their states over a cube
-  abbrev pub Stand : Cube → List ℕ → Tape → List ℕ → List ℕ → Type 0
-  Stand q tape t classes faces = (a : ℕ) → listed in_place (words_in tape t.from t.to) a ≡ true → state_in classes faces a ≡ state_over rs q a
+  abbrev pub Stand : Cube → List Word → Tape → List State → Type 0
+  Stand q tape t colours = (a : ℕ) → listed in_place (words_in tape t.from t.to) a ≡ true → state_in colours a ≡ state_over rs q a
+
+  -- the same in the memory of a walk
+  abbrev pub LentTo : Work → Type 0
+  LentTo w = Lent w.known.bounds w.known.states
+
+  abbrev pub StandIn : Cube → Tape → Work → Type 0
+  StandIn q t w = Stand q w.words t w.known.states
 
 -- the words from a place on are as they were
-pub record Stays (from : ℕ) (tape₀ tape : List ℕ) : Type 0 where
+pub record Stays (from : ℕ) (tape₀ tape : List Word) : Type 0 where
   pub same : length tape ≡ length tape₀
   pub after : drop from tape ≡ drop from tape₀

@@ -1,55 +1,51 @@
 -- The words of a sheet's own records, as they are listed in memory. Only inner contracts cite this.
-use Rattle.std.specs.Prelude.{ℕ, ◌+◌, ◌<◌, ◌≡◌, Bool, false, cond, not, ◌&&◌, List, ltb, leb, ℤ, pos, length, get_or, take, set}
-use Rattle.sheet.specs.declared.Comparison.{Comparison}
+use Rattle.std.specs.Prelude.{ℕ, ◌+◌, ◌<◌, ◌≡◌, Bool, cond, not, ◌&&◌, List, Option, Some, None, ℤ, pos, length, get_or, take}
 use Rattle.sheet.specs.declared.Comparison.TheVariants.{AtMost, LessThan}
 use Rattle.sheet.specs.declared.Record.{Record}
 use Rattle.sheet.specs.declared.Record.TheVariants.{Constant, X, Y, Z, Sum, Difference, Product, Square, Face, Both, Either, Complement}
-use Rattle.sheet.specs.Operands.{sort_of}
-use Rattle.colour.specs.Held.{Held}
-use Rattle.carried.specs.Words.{Word, word, is_logical}
-use Rattle.tape.specs.Memory.{kind_in, word_in, words_in}
+use Rattle.sheet.specs.Operands.{sort_of, first_of, second_of}
+use Rattle.interval.specs.declared.Interval.{Interval}
+use Rattle.interval.specs.Rules.{only}
+use Rattle.colour.specs.declared.State.{State}
+use Rattle.colour.specs.declared.State.TheVariants.{Mixed}
+use Rattle.carried.specs.Words.{is_logical}
+use Rattle.carried.specs.Words as carried
+use Rattle.tape.specs.declared.Kind.{Kind}
+use Rattle.tape.specs.declared.Kind.TheVariants as kind
+use Rattle.tape.specs.declared.Word.{Word}
+use Rattle.tape.specs.Memory.{words_in, bounds_in, state_in}
 use Rattle.tape.specs.Lent.{is_constant}
 
--- the kind of a face's word
-abbrev pub face_kind : Comparison → ℕ
-face_kind AtMost = 16
-face_kind LessThan = 15
+-- what a record's word is made of; a constant has no word
+abbrev pub kind_of : Record → Option Kind
+kind_of (Constant c) = None
+kind_of X = Some kind.X
+kind_of Y = Some kind.Y
+kind_of Z = Some kind.Z
+kind_of (Sum a b) = Some kind.Sum
+kind_of (Difference a b) = Some kind.Difference
+kind_of (Product a b) = Some kind.Product
+kind_of (Square a) = Some kind.Square
+kind_of (Face AtMost a) = Some kind.AtMost
+kind_of (Face LessThan a) = Some kind.LessThan
+kind_of (Both a b) = Some kind.Both
+kind_of (Either a b) = Some kind.Either
+kind_of (Complement a) = Some kind.Complement
 
-abbrev pub kind_of : Record → ℕ
-kind_of (Constant c) = 1
-kind_of X = 2
-kind_of Y = 3
-kind_of Z = 4
-kind_of (Sum a b) = 5
-kind_of (Difference a b) = 6
-kind_of (Product a b) = 7
-kind_of (Square a) = 8
-kind_of (Face by a) = face_kind by
-kind_of (Both a b) = 17
-kind_of (Either a b) = 18
-kind_of (Complement a) = 19
+abbrev pub word_with : ℕ → Record → Option Kind → Option Word
+word_with n r None = None
+word_with n r (Some k) = Some (record { number = n; first = first_of r; second = second_of r; kind = k })
 
--- w is the word of record n, which is r. A constant has a kind, but no word.
-pub record Packs (w n : ℕ) (r : Record) : Type 0 where
-  pub kind : kind_in w ≡ kind_of r
-  pub what : is_constant r ≡ false → word_in w ≡ word n r
-
-abbrev pub is_listed : Bool → ℕ → Bool
-is_listed logical kind = cond logical (leb 15 kind) (ltb 1 kind && ltb kind 15)
-
--- one word: put at a place if it is listed
-abbrev pub place_after : Bool → ℕ → ℕ
-place_after listed to = cond listed (to + 1) to
-
-abbrev pub tape_after : Bool → List ℕ → ℕ → ℕ → List ℕ
-tape_after listed tape to w = cond listed (set tape to w) tape
+-- the word of record n, which is r
+abbrev pub word_of : ℕ → Record → Option Word
+word_of n r = word_with n r (kind_of r)
 
 -- the words of logical records, or of arithmetic ones but constants
-abbrev pub listed_of : Bool → Word → Bool
+abbrev pub listed_of : Bool → carried.Word → Bool
 listed_of logical w = cond logical (is_logical (sort_of w.what)) (not (is_logical (sort_of w.what)) && not (is_constant w.what))
 
 -- what `list` leaves: the words at from..r, and what is before them unchanged
-pub record Listed (ws : List Word) (from : ℕ) (tape₀ tape : List ℕ) (r : ℕ) : Type 0 where
+pub record Listed (ws : List carried.Word) (from : ℕ) (tape₀ tape : List Word) (r : ℕ) : Type 0 where
   pub ends : r ≡ from + length ws
   pub same : length tape ≡ length tape₀
   pub before : take from tape ≡ take from tape₀
@@ -71,9 +67,6 @@ start_of (Either a b) = pos 0
 start_of (Complement a) = pos 0
 
 -- what `place` leaves
-pub record Placed (rs : List Record) (low high : List ℤ) (classes : List ℕ) : Type 0 where
-  pub held : Held low high
-  pub long : length classes ≡ 256
-  pub lows : (a : ℕ) → a < length rs → get_or low a (pos 0) ≡ start_of (get_or rs a X)
-  pub highs : (a : ℕ) → a < length rs → get_or high a (pos 0) ≡ start_of (get_or rs a X)
-  pub classed : (a : ℕ) → a < length rs → get_or classes a 0 ≡ 4
+pub record Placed (rs : List Record) (bounds : List Interval) (colours : List State) : Type 0 where
+  pub each : (a : ℕ) → a < length rs → bounds_in bounds a ≡ only (start_of (get_or rs a X))
+  pub mixed : (a : ℕ) → a < length rs → state_in colours a ≡ Mixed

@@ -1,52 +1,67 @@
--- A tape in memory: words of 32 bits, and where the entries of records are held. Only inner contracts cite this.
-use Rattle.std.specs.Prelude.{ℕ, ◌/◌, ◌%◌, Bool, cond, ◌||◌, List, map, eqb, ltb, get_or}
+-- A tape in memory: words of four bytes, and where the entries of records are held. Only inner contracts cite this.
+use Rattle.std.specs.Prelude.{ℕ, Bool, true, false, ◌||◌, List, map, eqb, get_or}
 use Rattle.std.proofs.Math.Seq.{slice}
-use Rattle.sheet.specs.declared.Comparison.{Comparison}
+use Rattle.interval.specs.declared.Interval.{Interval}
 use Rattle.sheet.specs.declared.Comparison.TheVariants.{AtMost, LessThan}
 use Rattle.sheet.specs.declared.Record.{Record}
 use Rattle.sheet.specs.declared.Record.TheVariants.{X, Y, Z, Sum, Difference, Product, Square, Face, Both, Either, Complement}
 use Rattle.colour.specs.declared.State.{State}
-use Rattle.colour.specs.Held.{state_by}
-use Rattle.carried.specs.Words.{Word, word}
+use Rattle.colour.specs.declared.State.TheVariants.{Out}
+use Rattle.colour.specs.Bounds.{none}
+use Rattle.carried.specs.Words.{word}
+use Rattle.carried.specs.Words as carried
+use Rattle.tape.specs.declared.Kind.{Kind}
+use Rattle.tape.specs.declared.Kind.TheVariants as kind
+use Rattle.tape.specs.declared.Word.{Word}
 
--- the parts of a word: the record's number, its operands, its kind
-abbrev pub number_in : ℕ → ℕ
-number_in w = w % 256
+-- the record that a word of this kind makes of its operands
+abbrev pub record_by : Kind → ℕ → ℕ → Record
+record_by kind.X a b = X
+record_by kind.Y a b = Y
+record_by kind.Z a b = Z
+record_by kind.Sum a b = Sum a b
+record_by kind.Difference a b = Difference a b
+record_by kind.Product a b = Product a b
+record_by kind.Square a b = Square a
+record_by kind.AtMost a b = Face AtMost a
+record_by kind.LessThan a b = Face LessThan a
+record_by kind.Both a b = Both a b
+record_by kind.Either a b = Either a b
+record_by kind.Complement a b = Complement a
 
-abbrev pub first_in : ℕ → ℕ
-first_in w = w / 256 % 256
+-- whether a record of this kind is logical
+abbrev pub has_state : Kind → Bool
+has_state kind.X = false
+has_state kind.Y = false
+has_state kind.Z = false
+has_state kind.Sum = false
+has_state kind.Difference = false
+has_state kind.Product = false
+has_state kind.Square = false
+has_state kind.AtMost = true
+has_state kind.LessThan = true
+has_state kind.Both = true
+has_state kind.Either = true
+has_state kind.Complement = true
 
-abbrev pub second_in : ℕ → ℕ
-second_in w = w / 65536 % 256
+-- the record of a word in memory
+abbrev pub record_in : Word → Record
+record_in w = record_by w.kind w.first w.second
 
-abbrev pub kind_in : ℕ → ℕ
-kind_in w = w / 16777216
-
--- Kinds are document 01's, and 15 is a face of a version 2 sheet. Every number is some kind, so that no word is wrong.
-unfoldable pub comparison_by : ℕ → Comparison
-comparison_by k = cond (eqb k 15) LessThan AtMost
-
-unfoldable pub record_by : ℕ → ℕ → ℕ → Record
-record_by k a b =
-    cond (ltb k 17)
-    (cond (eqb k 2) X (cond (eqb k 3) Y (cond (eqb k 4) Z (cond (eqb k 5) (Sum a b) (cond (eqb k 6) (Difference a b) (cond (eqb k 7) (Product a b)
-    (cond (eqb k 8) (Square a) (Face (comparison_by k) a))))))))
-    (cond (eqb k 17) (Both a b) (cond (eqb k 18) (Either a b) (Complement a)))
-
-abbrev pub record_in : ℕ → Record
-record_in w = record_by (kind_in w) (first_in w) (second_in w)
-
-abbrev pub word_in : ℕ → Word
-word_in w = word (number_in w) (record_in w)
+abbrev pub word_in : Word → carried.Word
+word_in w = word w.number (record_in w)
 
 -- the words at from..to
-abbrev pub words_in : List ℕ → ℕ → ℕ → List Word
+abbrev pub words_in : List Word → ℕ → ℕ → List carried.Word
 words_in tape from to = map word_in (slice from to tape)
 
 -- the numbers that a word uses, its operands at least
-abbrev pub uses_in : ℕ → ℕ → Bool
-uses_in w a = eqb a (first_in w) || eqb a (second_in w)
+abbrev pub uses_in : Word → ℕ → Bool
+uses_in w a = eqb a w.first || eqb a w.second
 
--- the state of record a
-abbrev pub state_in : List ℕ → List ℕ → ℕ → State
-state_in classes faces a = state_by (get_or classes a 0) (get_or faces a 0)
+-- the bounds of record a, and its state
+abbrev pub bounds_in : List Interval → ℕ → Interval
+bounds_in bounds a = get_or bounds a none
+
+abbrev pub state_in : List State → ℕ → State
+state_in colours a = get_or colours a Out

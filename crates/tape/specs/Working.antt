@@ -1,5 +1,5 @@
 -- A tape worked out over a cube in two loops: the bounds of its arithmetic records, then the states of its logical ones. Only inner contracts cite this.
-use Rattle.std.specs.Prelude.{ℕ, ◌≤◌, ◌≡◌, Bool, true, List, [], ◌∷◌, ℤ, length}
+use Rattle.std.specs.Prelude.{ℕ, ◌≡◌, Bool, List, [], ◌∷◌}
 use Rattle.interval.specs.declared.Interval.{Interval}
 use Rattle.interval.specs.Limit.{SmallEnds}
 use Rattle.sheet.specs.declared.Record.{Record}
@@ -8,29 +8,12 @@ use Rattle.cube.specs.declared.Cube.{Cube}
 use Rattle.colour.specs.declared.State.{State}
 use Rattle.colour.specs.Bounds.{bounds_of}
 use Rattle.colour.specs.States.{state_of}
-use Rattle.colour.specs.Held.{Held, held_at}
 use Rattle.carried.specs.Words.{Word, put, is_logical}
-use Rattle.tape.specs.Memory.{words_in, state_in}
+use Rattle.tape.specs.Memory.{bounds_in, state_in}
 
 -- a record of this sort: `true` is logical
 abbrev pub OfSort : Bool → Record → Type 0
 OfSort logical r = is_logical (sort_of r) ≡ logical
-
-abbrev pub AllOf : Bool → List Word → Type 0
-AllOf logical [] = Unit {0}
-AllOf logical (w ∷ ws) = OfSort logical w.what × AllOf logical ws
-
--- the words at from..to of a tape, which are of records of one sort
-pub record Part (logical : Bool) (tape : List ℕ) (from to : ℕ) : Type 0 where
-  pub ordered : from ≤ to
-  pub among : to ≤ length tape
-  pub sort : AllOf logical (words_in tape from to)
-
--- the places of bounds and states
-pub record Places (low high : List ℤ) (classes faces : List ℕ) : Type 0 where
-  pub held : Held low high
-  pub classes-long : length classes ≡ 256
-  pub faces-long : length faces ≡ 256
 
 -- ---- bounds
 -- what a word makes of bounds
@@ -47,9 +30,8 @@ AllSmall q b [] = Unit {0}
 AllSmall q b (w ∷ ws) = SmallEnds (bounds_word q b w) × AllSmall q (put b w.number (bounds_word q b w)) ws
 
 -- what the first loop leaves
-pub record Filled (q : Cube) (ws : List Word) (low₀ high₀ low high : List ℤ) : Type 0 where
-  pub held : Held low high
-  pub each : (a : ℕ) → held_at low high a ≡ run_bounds q (held_at low₀ high₀) ws a
+pub record Filled (q : Cube) (ws : List Word) (bounds₀ bounds : List Interval) : Type 0 where
+  pub each : (a : ℕ) → bounds_in bounds a ≡ run_bounds q (bounds_in bounds₀) ws a
 
 -- ---- states
 -- what a word makes of bounds and states
@@ -61,7 +43,5 @@ run_states b s [] = s
 run_states b s (w ∷ ws) = run_states b (put s w.number (state_word b s w)) ws
 
 -- what the second loop leaves
-pub record Stated (b : ℕ → Interval) (ws : List Word) (classes₀ faces₀ classes faces : List ℕ) : Type 0 where
-  pub classes-long : length classes ≡ 256
-  pub faces-long : length faces ≡ 256
-  pub each : (a : ℕ) → state_in classes faces a ≡ run_states b (state_in classes₀ faces₀) ws a
+pub record Stated (b : ℕ → Interval) (ws : List Word) (colours₀ colours : List State) : Type 0 where
+  pub each : (a : ℕ) → state_in colours a ≡ run_states b (state_in colours₀) ws a

@@ -1,4 +1,5 @@
-// Numbers as text, built in a buffer: decimal, in ASCII. Nothing here does input or output.
+// Numbers as text, built in a buffer: decimal, in ASCII. Nothing here does input or output. (The contract of `write!` does not say which bytes it writes; `Puts`
+// does.)
 
 #![tactic(auto)]
 

@@ -1,3 +1,4 @@
 pub mod Visit
 pub mod Solid
 pub mod Walk
+pub mod Sinks

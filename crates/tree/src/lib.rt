@@ -1,7 +1,9 @@
-// The tree of cubes: the leaves below a cube, counted and written.
+// The tree of cubes: the leaves below a cube, handed to a sink, which counts or writes them.
 
 #![tactic(auto)]
 
 mod leaves;
+mod sink;
 
-pub use leaves::{count, write};
+pub use leaves::give_leaves;
+pub use sink::{Counter, Sink, Writer};

@@ -14,7 +14,7 @@ use std::io::Read;
 const LONGEST: usize = 640;
 
 // Of a line that was read: where the next line begins, and the number of bytes in its vector.
-#[derive(Clone, Copy)]
+#[derive(Clone, Copy, Debug, PartialEq, Eq)]
 pub struct Line {
     pub next: usize,
     pub size: usize,

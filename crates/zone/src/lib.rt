@@ -1,4 +1,5 @@
-// The library's interface for C and Rust: each call has the contract of its inner call, with the reply as a code and a number.
+// The library's interface for C and Rust: each call has the contract of its inner call, with the reply as a code and a number. A crate is a library or a static
+// library, so `zone_c` exports the same calls once more, for C.
 
 #![tactic(auto)]
 
@@ -9,7 +10,7 @@ use replies::Refusal;
 
 // A reply by document 01's code and number.
 #[repr(C)]
-#[derive(Clone, Copy)]
+#[derive(Clone, Copy, Debug, PartialEq, Eq)]
 pub struct ZoneReply {
     pub code: u32,
     pub number: u64,

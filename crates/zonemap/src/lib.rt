@@ -13,7 +13,7 @@ use cube::{Cube, Root};
 pub use opening::{find, leaf_at, open};
 pub use walking::{leaf_count, meet};
 
-// A leaf: its level, its class and its face number.
+// A leaf: its level, its class and its face number, as a map has them, good or not. So the class is a byte: `level_good` and `face_good` tell which is good.
 #[derive(Clone, Copy, Debug, PartialEq, Eq)]
 pub struct Leaf {
     pub level: u8,
@@ -22,14 +22,14 @@ pub struct Leaf {
 }
 
 // The root of a map that opens, with the offset of the leaf that holds a point.
-#[derive(Clone, Copy)]
+#[derive(Clone, Copy, Debug, PartialEq, Eq)]
 pub struct Found {
     pub root: Root,
     pub at: usize,
 }
 
 // A leaf of a map that opens, the cube at its place, and the place after it.
-#[derive(Clone, Copy)]
+#[derive(Clone, Copy, Debug, PartialEq, Eq)]
 pub struct Met {
     pub leaf: Leaf,
     pub cube: Cube,
@@ -53,8 +53,8 @@ fn put_corner(out: &mut [u8], root: Root)
 
 // Writes the bytes before the leaves.
 pub fn put_header(out: &mut [u8], root: Root, leaves: u32)
-    requires fact_1 { header_size ≤ length out.old }
-    requires fact_2 { leaves ≤ 2 ^ 30 }
+    requires room { header_size ≤ length out.old }
+    requires few { leaves ≤ 2 ^ 30 }
     ensures { out.new ≡ sets out.old 0 (header_of root leaves) }
 {
     bigendian::put_u32(out, 0, 15 + 3 * leaves);

@@ -1,6 +1,6 @@
 -- `interval::times` meets its contract.
 use borrow.Author.Rules.{rules}
-use Rattle.interval.proofs.Products.{short-fits, short-exact, times-fits, times-exact, times_above, times_below}
+use Rattle.interval.proofs.Products.{short-fits, short-exact, times-exact, times_above, times_below}
 use Rattle.interval.proofs.times.Goals as goal
 
 pub overflow_mul-result : goal.overflow_mul-result
@@ -8,9 +8,6 @@ overflow_mul-result c = search (rules, short-fits)
 
 pub returns-then-is_short-2 : goal.returns-then-is_short-2
 returns-then-is_short-2 c = search (rules, short-exact)
-
-pub overflow_mul-result-then-is_small_product : goal.overflow_mul-result-then-is_small_product
-overflow_mul-result-then-is_small_product c = search (rules, times-fits)
 
 pub returns-then-is_small_product : goal.returns-then-is_small_product
 returns-then-is_small_product c = search (rules, times-exact)

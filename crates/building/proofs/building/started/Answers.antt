@@ -1,6 +1,6 @@
--- `building::building::started` meets its contract: the arrays are what a walk needs.
-use Rattle.building.proofs.Outcomes.{zero-places}
+-- `building::building::started` meets its contract: the memory is what a walk needs.
+use Rattle.building.proofs.Outcomes.{ready-root}
 use Rattle.building.proofs.building.started.Goals as goal
 
-pub start-t-requires-clause-fact_4 : goal.start-t-requires-clause-fact_4
-start-t-requires-clause-fact_4 c = zero-places
+pub stored-requires-clause-ready : goal.stored-requires-clause-ready
+stored-requires-clause-ready g c = ready-root _ _ c.requires.within c.requires.none_past c.start-t.new.self _ c.start-t.ensures.lent c.start-t.ensures.starts

@@ -1,44 +1,29 @@
 -- `building::building::stored` meets its contract: the header and the leaves after it are the map.
-use native.Mathlib.Omega.{arith}
-use Rattle.cube.proofs.Cubes.{root-small}
-use Rattle.building.proofs.Outcomes.{ready-root, ready-again, count-few, count_fits, leaves-fit, need-fits, too_short, write-room, whole}
+use mathlib.Core.Path.{◌≡◌, sym, ap, ◌∙◌}
+use mathlib.Core.List.{List}
+use native.Mathlib.Nat.{zero-add}
+use Prim.Native.Nat.{ℕ, ◌+◌}
+use lib.ListN.{length}
+use Rattle.zonemap.specs.declared.Leaf.{Leaf}
+use Rattle.tree.specs.declared.sink.Counter.{Counter}
+use Rattle.tree.specs.declared.sink.Writer.{Writer}
+use Rattle.tree.specs.Sinks.{counted}
+use Rattle.building.proofs.Outcomes.{ready-again, too_short, whole}
 use borrow.Author.Rules.{rules}
 use Rattle.building.proofs.building.stored.Goals as goal
 
-pub cube-requires : goal.cube-requires
-cube-requires c = search (rules, root-small)
-
-pub count-n-requires : goal.count-n-requires
-count-n-requires c = search (rules, ready-root)
-
-pub overflow_mul-need : goal.overflow_mul-need
-overflow_mul-need c = leaves-fit _ _ c.cube.ensures _ _ c.count-n.ensures c.requires.fact_3
-
-pub overflow_add-need : goal.overflow_add-need
-overflow_add-need c = need-fits _ _ c.cube.ensures _ _ c.count-n.ensures c.requires.fact_3
+-- what a new counter has counted
+count-is : (c₀ : Counter) → c₀.leaves ≡ 0 → (ls : List Leaf) (c : Counter) → c ≡ counted c₀ ls → c.leaves ≡ length ls
+count-is c₀ none ls c e = ap (λ (x : Counter). x.leaves) e ∙ ap (λ (n : ℕ). n + length ls) none ∙ zero-add (length ls)
 
 pub returns-then-out-need : goal.returns-then-out-need
-returns-then-out-need c = too_short _ _ c.cube.ensures _ _ c.count-n.ensures _ c.if-out-need.true
+returns-then-out-need g c = too_short _ _ _ (count-is _ c.new-counter.ensures _ _ c.give.ensures.taken) _ c.if-out-need.true
 
-pub overflow_cast-n : goal.overflow_cast-n
-overflow_cast-n c = count_fits _ _ c.cube.ensures _ _ c.count-n.ensures c.requires.fact_3
-
-pub put_header-requires-clause-fact_1 : goal.put_header-requires-clause-fact_1
-put_header-requires-clause-fact_1 c = omega (arith, c.if-out-need.false)
-
-pub put_header-requires-clause-fact_2 : goal.put_header-requires-clause-fact_2
-put_header-requires-clause-fact_2 c = count-few _ _ c.cube.ensures _ _ c.count-n.ensures c.requires.fact_3
-
-pub cube-requires-2 : goal.cube-requires-2
-cube-requires-2 c = root-small _ c.requires.fact_3
-
-pub write-end-requires-clause-fact_1 : goal.write-end-requires-clause-fact_1
-write-end-requires-clause-fact_1 c =
-    ready-again _ _ c.cube.ensures _ c.requires.fact_3 c.requires.fact_4 _ _ c.requires.fact_2 _ _ _ _ _ _ c.count-n.ensures _ c.cube-2.ensures
-
-pub write-end-requires-clause-fact_2 : goal.write-end-requires-clause-fact_2
-write-end-requires-clause-fact_2 c = write-room _ _ c.cube.ensures _ _ c.count-n.ensures _ c.if-out-need.false _ c.put_header.ensures _ c.cube-2.ensures
+pub give-requires-2-clause-ready : goal.give-requires-2-clause-ready
+give-requires-2-clause-ready g c = ready-again _ _ _ _ _ c.give.new.work c.requires.ready c.give.ensures.work
 
 pub returns : goal.returns
-returns c =
-    whole _ _ c.cube.ensures _ _ c.count-n.ensures _ c.if-out-need.false _ c.put_header.ensures _ c.cube-2.ensures _ _ c.write-end.ensures
+returns g c =
+    let name = sym (ap (λ (w : Writer). w.out.ghost_name) c.give-2.ensures.taken) in
+    let bytes = ap (λ (w : Writer). w.out.now) c.give-2.ensures.taken in
+    whole _ _ _ (count-is _ c.new-counter.ensures _ _ c.give.ensures.taken) _ c.if-out-need.false _ c.put_header.ensures _ (search rules)

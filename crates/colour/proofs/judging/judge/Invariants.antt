@@ -1,10 +1,6 @@
--- `colour::judging::judge` meets its contract. The invariant is `Filling`: the first n records are done, and the arrays hold what is known of them.
-use Prim.Native.Nat.{◌-◌}
+-- `colour::judging::judge` meets its contract. The invariant is `Filling`: the first n records are done, and the lists hold what is known of them.
 use Rattle.colour.proofs.Filling.{Filling}
 use Rattle.colour.proofs.judging.judge.Given as goal
 
-abbrev pub invariant-loop-b : goal.invariant-loop-b
-invariant-loop-b l = Filling l.s l.offsets l.count l.q l.b.low l.b.high l.b.count l.classes l.faces
-
-abbrev pub decreases-loop-b : goal.decreases-loop-b
-decreases-loop-b l = l.count - l.b.count
+abbrev pub invariant-loop-n : goal.invariant-loop-n
+invariant-loop-n l = Filling l.s l.offsets l.q l.known.0 l.known.1.0 l.n

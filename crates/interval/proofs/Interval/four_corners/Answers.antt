@@ -1,6 +1,6 @@
 -- `interval::Interval::four_corners` meets its contract.
 use borrow.Author.Rules.{rules}
-use Rattle.interval.proofs.Tests.{lesser-told, greater-told}
+use Rattle.interval.proofs.MinMax.{lesser-told, greater-told}
 use Rattle.interval.proofs.Operations.{times-told}
 use Rattle.interval.proofs.Corners.{four-told}
 use Rattle.interval.proofs.Interval.four_corners.Goals as goal

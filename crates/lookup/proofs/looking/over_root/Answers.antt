@@ -1,4 +1,6 @@
 -- `lookup::looking::over_root` meets its contract: the limit over the root is tested before the point.
+use native.Mathlib.Omega.{arith}
+use Rattle.sheet.proofs.Good.{records-few}
 use Rattle.pair.proofs.Openings.{pair-count, pair_small, pair-near}
 use Rattle.lookup.proofs.Steps.{over-limit, at-limit}
 use Rattle.colour.proofs.Told.{known-none}
@@ -7,17 +9,23 @@ use Rattle.lookup.proofs.looking.over_root.Goals as goal
 use Rattle.replies.specs.declared.Refusal.TheVariants.{OverRoot}
 use Rattle.replies.proofs.Mapped.{mapped-good, mapped-bad}
 
+pub slice_bounds-room-end : goal.slice_bounds-room-end
+slice_bounds-room-end c = omega (arith, pair-count _ _ c.requires.opens _ _ c.requires.opened, records-few c.args.sheet.now)
+
+pub slice_bounds-offsets-end : goal.slice_bounds-offsets-end
+slice_bounds-offsets-end c = search (rules, pair-count, records-few)
+
 pub list_offsets-requires : goal.list_offsets-requires
-list_offsets-requires c = search (rules, pair-count)
+list_offsets-requires c = search (rules, pair-count, records-few)
 
 pub cube-requires : goal.cube-requires
 cube-requires c = search (rules, pair_small)
 
-pub judge-requires : goal.judge-requires
-judge-requires c = search (rules, pair-count, pair-near)
+pub judge-requires-clause-near : goal.judge-requires-clause-near
+judge-requires-clause-near c = search (rules, pair-near)
 
-pub at_point-requires-clause-fact_4 : goal.at_point-requires-clause-fact_4
-at_point-requires-clause-fact_4 c =
+pub at_point-requires-clause-limit : goal.at_point-requires-clause-limit
+at_point-requires-clause-limit c =
     let t = mapped-good OverRoot _ _ c.map_err.ensures.cases _ c.in_ok-map_err.was in
     search (rules, known-none)
 

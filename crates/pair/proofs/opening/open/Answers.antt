@@ -1,16 +1,10 @@
 -- `pair::opening::open` meets its contract: the replies of the sheet come first, and the marks are those of its faces.
 use Rattle.replies.specs.declared.Refusal.TheVariants.{Map}
 use Rattle.sheet.proofs.Good.{good-count}
-use Rattle.zonemap.proofs.Opens.{mapped-good, mapped-bad}
-use Rattle.pair.proofs.Openings.{sheet-refused, sheet-good, map-opened, map-refused}
+use Rattle.replies.proofs.Mapped.{mapped-good, mapped-bad}
+use Rattle.pair.proofs.Openings.{sheet-good, map-opened, map-refused}
 use borrow.Author.Rules.{rules}
 use Rattle.pair.proofs.opening.open.Goals as goal
-
-pub returns-in_err-count : goal.returns-in_err-count
-returns-in_err-count c = search (rules, sheet-refused)
-
-pub faces-faces-requires : goal.faces-faces-requires
-faces-faces-requires c = search (rules, good-count)
 
 pub returns-in_err-root : goal.returns-in_err-root
 returns-in_err-root c =

@@ -7,9 +7,6 @@ use Rattle.sheet.proofs.operands.check_records.Goals as goal
 pub loop-r-init : goal.loop-r-init
 loop-r-init c = search (rules, sorting_start)
 
-pub returns-in_default : goal.returns-in_default
-returns-in_default c = search (rules, sorted-end)
-
 pub returns-then-not-met : goal.returns-then-not-met
 returns-then-not-met c = search (rules, unmet)
 
@@ -24,3 +21,6 @@ loop-r-smaller c = search (rules, fewer-left)
 
 pub loop-r-preserved : goal.loop-r-preserved
 loop-r-preserved c = search (rules, sorting-next _ _ _ _ _ c.loop-r.invariant)
+
+pub returns : goal.returns
+returns c = search (rules, sorted-end)

@@ -4,6 +4,3 @@ use Rattle.tape.proofs.shortening.keep.Given as goal
 
 abbrev pub invariant-loop-i : goal.invariant-loop-i
 invariant-loop-i l = Keeping l.initial.tape l.from l.to l.at l.initial.marks l.tape l.marks l.next l.i
-
-abbrev pub decreases-loop-i : goal.decreases-loop-i
-decreases-loop-i l = l.i

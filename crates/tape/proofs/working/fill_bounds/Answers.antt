@@ -1,19 +1,26 @@
-use Prim.Native.Nat.{◌-◌}
-use Rattle.tape.proofs.Filling.{bounding-start, bounding-sort, bounding-never, bounding-again, bounding-end}
+-- `tape::working::fill_bounds` meets its contract. The invariant is `Bounding`.
 use borrow.Author.Rules.{rules}
+use mathlib.Core.Path.{refl, ◌∙◌}
+use lib.ListN.{length-set}
+use Rattle.tape.proofs.Filling.{bounding-start, bounding-never, bounding-next, bounding-small, bounding-end}
 use Rattle.tape.proofs.working.fill_bounds.Goals as goal
 
-pub loop-i-init : goal.loop-i-init
-loop-i-init c = search (rules, bounding-start)
+pub loop-w-init : goal.loop-w-init
+loop-w-init c = (search (rules, bounding-start), refl)
 
-pub bounds_by-requires : goal.bounds_by-requires
-bounds_by-requires c = search (rules, bounding-sort)
+pub returns-in_default-clause-bounds : goal.returns-in_default-clause-bounds
+returns-in_default-clause-bounds c = search (rules, bounding-never)
 
-pub returns-in_default : goal.returns-in_default
-returns-in_default c = search (rules, bounding-never)
+pub loop-w-preserved : goal.loop-w-preserved
+loop-w-preserved c = (search (rules, bounding-next), search rules)
 
-pub loop-i-preserved : goal.loop-i-preserved
-loop-i-preserved c = search (rules, bounding-again)
+pub returns-clause-bounds : goal.returns-clause-bounds
+returns-clause-bounds c = search (rules, bounding-end)
 
-pub returns : goal.returns
-returns c = search (rules, bounding-end)
+pub invariant_of-known : goal.invariant_of-known
+invariant_of-known c =
+    record {
+      bounds_long = length-set c.loop-w.known.bounds _ _ ∙ c.loop-w.invariant.0.long;
+      states_long = search rules;
+      small = search (rules, bounding-small);
+    }

@@ -1,9 +1,7 @@
-use Prim.Native.Nat.{◌-◌}
+-- `tape::working::fill_bounds` meets its contract. The invariant is `Bounding`; the states stay.
+use mathlib.Core.Path.{◌≡◌}
 use Rattle.tape.proofs.Filling.{Bounding}
 use Rattle.tape.proofs.working.fill_bounds.Given as goal
 
-abbrev pub invariant-loop-i : goal.invariant-loop-i
-invariant-loop-i l = Bounding l.tape l.from l.to l.q l.initial.low l.initial.high l.low l.high l.i
-
-abbrev pub decreases-loop-i : goal.decreases-loop-i
-decreases-loop-i l = l.to - l.i
+abbrev pub invariant-loop-w : goal.invariant-loop-w
+invariant-loop-w l = Bounding l.words l.q l.initial.known.bounds l.known.bounds l.w-index × (l.known.states ≡ l.initial.known.states)

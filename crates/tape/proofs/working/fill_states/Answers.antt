@@ -1,18 +1,15 @@
 -- `tape::working::fill_states` meets its contract. The invariant is `Stating`; no more words are decided than were met.
-use Prim.Native.Nat.{◌-◌}
-use native.Mathlib.Omega.{arith}
-use Rattle.tape.proofs.Filling.{stating-start, stating-sort, stating-next, stating-end}
 use borrow.Author.Rules.{rules}
+use mathlib.Core.Path.{refl}
+use native.Mathlib.Omega.{arith}
+use Rattle.tape.proofs.Filling.{stating-start, stating-next, stating-end}
 use Rattle.tape.proofs.working.fill_states.Goals as goal
 
-pub loop-i-init : goal.loop-i-init
-loop-i-init c = (search (rules, stating-start), omega arith)
+pub loop-w-init : goal.loop-w-init
+loop-w-init c = record { stating = search (rules, stating-start); bounds = refl; few = omega arith }
 
-pub state_by-state-requires-clause-fact_1 : goal.state_by-state-requires-clause-fact_1
-state_by-state-requires-clause-fact_1 c = search (rules, stating-sort)
+pub loop-w-preserved : goal.loop-w-preserved
+loop-w-preserved c = record { stating = search (rules, stating-next); bounds = search rules; few = search rules }
 
-pub loop-i-preserved : goal.loop-i-preserved
-loop-i-preserved c = (search (rules, stating-next), search rules)
-
-pub returns : goal.returns
-returns c = search (rules, stating-end)
+pub returns-clause-states : goal.returns-clause-states
+returns-clause-states c = search (rules, stating-end)

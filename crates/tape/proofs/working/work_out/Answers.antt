@@ -1,18 +1,15 @@
-use Rattle.tape.proofs.Worked.{first_part, second-part, works-small, places-filled, lent_still, stand}
-use borrow.Author.Rules.{rules}
+-- `tape::working::work_out` meets its contract.
+use Rattle.tape.proofs.Worked.{works-small, lent_still, stand}
 use Rattle.tape.proofs.working.work_out.Goals as goal
 
-pub fill_bounds-requires-clause-fact_1 : goal.fill_bounds-requires-clause-fact_1
-fill_bounds-requires-clause-fact_1 c = search (rules, first_part)
+pub fill_bounds-requires-clause-small : goal.fill_bounds-requires-clause-small
+fill_bounds-requires-clause-small c = works-small _ _ c.requires.none_past _ _ c.requires.carries _ _ c.requires.lent
 
-pub fill_bounds-requires-clause-fact_2 : goal.fill_bounds-requires-clause-fact_2
-fill_bounds-requires-clause-fact_2 c = search (rules, works-small)
+pub returns-clause-lent : goal.returns-clause-lent
+returns-clause-lent c =
+    rw c.fill_states.ensures.bounds
+    (lent_still _ _ c.requires.none_past _ _ c.requires.carries _ _ c.requires.lent _ c.fill_bounds.ensures.bounds _ (rw c.fill_bounds.ensures.states at c.fill_states.ensures.states))
 
-pub fill_states-requires-clause-fact_1 : goal.fill_states-requires-clause-fact_1
-fill_states-requires-clause-fact_1 c = search (rules, second-part)
-
-pub fill_states-requires-clause-fact_2 : goal.fill_states-requires-clause-fact_2
-fill_states-requires-clause-fact_2 c = search (rules, places-filled)
-
-pub returns : goal.returns
-returns c = (search (rules, lent_still), search (rules, stand))
+pub returns-clause-stand : goal.returns-clause-stand
+returns-clause-stand c =
+    stand _ _ c.requires.none_past _ _ c.requires.carries _ _ c.requires.lent _ c.fill_bounds.ensures.bounds _ (rw c.fill_bounds.ensures.states at c.fill_states.ensures.states)

@@ -1,8 +1,9 @@
 -- `zonemap::opening::open` meets its contract: every face is marked.
 use Rattle.replies.specs.declared.Refusal.TheVariants.{Map}
-use Rattle.zonemap.proofs.Opens.{opened-long, opened, not_opened, mapped-good, mapped-bad}
+use Rattle.zonemap.proofs.Opens.{opened-long, opened, not_opened}
 use borrow.Author.Rules.{rules}
 use Rattle.zonemap.proofs.opening.open.Goals as goal
+use Rattle.replies.proofs.Mapped.{mapped-good, mapped-bad}
 
 pub returns-in_err-map_err : goal.returns-in_err-map_err
 returns-in_err-map_err c =

@@ -1,0 +1,34 @@
+// Where the leaves of a new map come from: the rules of building, or an older map.
+
+ghost use Rattle.std.specs.Prelude.{◌≡◌, true, ℕ, List, ◌≤◌, ◌^◌, length};
+ghost use Rattle.sheet.specs.declared.Record.{Record};
+ghost use Rattle.sheet.specs.Records.{records_of};
+ghost use Rattle.cube.specs.declared.Root.{Root};
+ghost use Rattle.cube.specs.Limits.{in_limits};
+ghost use Rattle.cube.specs.Cubes.{root_cube};
+ghost use Rattle.zonemap.specs.declared.Leaf.{Leaf};
+ghost use Rattle.tree.specs.Walk.{Ready, Left};
+
+use cube::Root;
+use tape::{Tape, Work};
+use tree::Sink;
+
+pub trait Source {
+    // The leaves of its map, for the records of a sheet, over a root.
+    ghost leaves: { Self → List Record → Root → List Leaf };
+
+    // That it has leaves over a root.
+    ghost suits: { Self → Root → Type 0 };
+
+    // Hands them to a sink.
+    fn give<S: Sink>(&self, s: &[u8], work: &mut Work, t: Tape, root: Root, sink: &mut S)
+        requires within { in_limits root ≡ true }
+        requires suited { suits self.now root }
+        requires ready { Ready (records_of s.now) root.d (root_cube root) work.old t }
+        requires room { S.room sink.old (length (leaves self.now (records_of s.now) root)) }
+        ensures work { Left (records_of s.now) t work.old work.new }
+        ensures taken { sink.new ≡ S.after sink.old (leaves self.now (records_of s.now) root) };
+
+    // No root in limits has room for more.
+    ghost few: { (from : Self) (rs : List Record) (root : Root) → in_limits root ≡ true → suits from root → length (leaves from rs root) ≤ 2 ^ 30 };
+}

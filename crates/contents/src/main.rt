@@ -40,7 +40,7 @@ fn main(rt: HostRuntime) {
 
 fn tell(rt: &impl Print, s: &[u8]) {
     match sheet::check(s) {
-        Ok(_) => records(rt, s),
+        Ok(count) => records(rt, s, count),
         Err(why) => {
             let _refused = println!(rt; "refused {} {}", why.code(), why.number());
         }
@@ -48,12 +48,13 @@ fn tell(rt: &impl Print, s: &[u8]) {
 }
 
 // One line per record, with its number and its byte offset in the sheet.
-fn records(rt: &impl Print, s: &[u8]) {
+fn records(rt: &impl Print, s: &[u8], count: usize) {
     let mut c = Cursor::start();
-    let mut n = 0u64;
-    while let Ok((r, next)) = c.read(s) {
+    for n in 0..count {
+        let Ok((r, next)) = c.read(s) else {
+            return;
+        };
         let _record = println!(rt; "{n} at {}: {}", c.at, Shown(r));
-        n += 1;
         c = next;
     }
 }

@@ -84,6 +84,7 @@ fn leaves(rt: &impl Print, map: &[u8], root: Root)
     let count = zonemap::leaf_count(map);
     head(rt, root, count as i64);
     let mut place = 0;
+    // By number, since the offset of leaf i is asked for.
     for i in 0..count {
         let met = zonemap::meet(map, root, i, place);
         leaf(rt, met);

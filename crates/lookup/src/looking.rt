@@ -86,15 +86,12 @@ fn side(holds: bool) -> Answer
     }
 }
 
-// Whether a point satisfies face f, by the bounds over the point alone. No record passes the limit there, so the second arm is never reached.
+// Whether a point satisfies face f, by the bounds over the point alone. No record passes the limit there.
 #[tactic(auto, using(crate::proofs::Steps::known_there), unfolding(crate::specs::Lookup::face_holds))]
 fn face_holds(sheet: &[u8], offsets: &[u16], f: u8, p: Point) -> bool
     requires offsets { Offsets offsets.now sheet.now }
     requires judgeable { Judgeable (records_of sheet.now) p }
     ensures { result ≡ face_holds (records_of sheet.now) f p }
 {
-    match colour::judge(sheet, offsets, p.cube(), f) {
-        Ok(state) => state.is_in(),
-        Err(_) => false,
-    }
+    colour::judge(sheet, offsets, p.cube(), f).is_ok_and(|state| state.is_in())
 }

@@ -48,7 +48,7 @@ pub struct Tape {
     pub solid: u8,
 }
 
-// What a walk over cubes works with: the words of its tapes, and what is known of each record over the cube at hand.
+// What a walk over cubes works with: the words of its tapes, and what is known of each record over the cube at hand. A panel has no heap, so both are arrays.
 #[derive(Drop)]
 pub struct Work {
     pub words: [Word; 640],

@@ -8,7 +8,8 @@ ghost use Rattle.tape.specs.Shortening.{Room, Kept, twin_in, Moves, Moved, Own, 
 use crate::{Kind, Tape, Word};
 use colour::State;
 
-// Moves the marked ones of the words from..to up to `at`, last first, and marks the operands of each. Returns the place of the first.
+// Moves the marked ones of the words from..to up to `at`, last first, and marks the operands of each. Returns the place of the first. It goes by number, since it
+// stores into the list that it reads.
 fn keep(tape: &mut [Word], from: usize, to: usize, at: usize, marks: &mut [bool]) -> usize
     requires { Room tape.old from to at marks.old }
     ensures { Kept tape.old from to at marks.old result tape.new marks.new }
@@ -76,7 +77,8 @@ impl Word {
     }
 }
 
-// Puts the words from..to, with twins for operands, `down` places before their own. `twins` has the twins of the records before them, and then also of theirs.
+// Puts the words from..to, with twins for operands, `down` places before their own, by number, since it is one list. `twins` has the twins of the records before
+// them, and then also of theirs.
 fn rename(
     tape: &mut [Word],
     from: usize,
@@ -101,8 +103,8 @@ fn own_twins() -> [u8; 256]
     ensures { Own result }
 {
     let mut twins = [0; 256];
-    for n in 0..256 {
-        twins[n] = n as u8;
+    for (n, twin) in twins.iter_mut().enumerate() {
+        *twin = n as u8;
     }
     twins
 }

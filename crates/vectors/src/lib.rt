@@ -79,6 +79,7 @@ fn put_bytes(input: &[u8], from: usize, vector: &mut [u8]) -> Line
     ensures prefix_len { IsPrefixLen result.size vector.new }
 {
     let mut n = 0;
+    // By number: `skip` would walk from the start of the input at each line.
     for i in from..input.len() {
         let c = input[i];
         if c == b'\n' {

@@ -4,7 +4,6 @@ pub mod Owning
 pub mod Phases
 pub mod Worked
 pub mod Keeping
-pub mod Twins
 pub mod Renaming
 pub mod Shortened
 pub mod Carrying

@@ -1,14 +1,15 @@
 -- A tape in memory: words of four bytes, and where the entries of records are held. Only inner contracts cite this.
-use Rattle.std.specs.Prelude.{ℕ, Bool, true, false, ◌||◌, List, map, eqb, get_or}
+use Rattle.std.specs.Prelude.{ℕ, Bool, ◌||◌, List, map, eqb, get_or}
 use Rattle.std.proofs.Math.Seq.{slice}
 use Rattle.interval.specs.declared.Interval.{Interval}
 use Rattle.sheet.specs.declared.Comparison.TheVariants.{AtMost, LessThan}
 use Rattle.sheet.specs.declared.Record.{Record}
 use Rattle.sheet.specs.declared.Record.TheVariants.{X, Y, Z, Sum, Difference, Product, Square, Face, Both, Either, Complement}
+use Rattle.sheet.specs.Operands.{sort_of}
 use Rattle.colour.specs.declared.State.{State}
 use Rattle.colour.specs.declared.State.TheVariants.{Out}
 use Rattle.colour.specs.Bounds.{none}
-use Rattle.carried.specs.Words.{word}
+use Rattle.carried.specs.Words.{word, is_logical}
 use Rattle.carried.specs.Words as carried
 use Rattle.tape.specs.declared.Kind.{Kind}
 use Rattle.tape.specs.declared.Kind.TheVariants as kind
@@ -31,18 +32,7 @@ record_by kind.Complement a b = Complement a
 
 -- whether a record of this kind is logical
 abbrev pub has_state : Kind → Bool
-has_state kind.X = false
-has_state kind.Y = false
-has_state kind.Z = false
-has_state kind.Sum = false
-has_state kind.Difference = false
-has_state kind.Product = false
-has_state kind.Square = false
-has_state kind.AtMost = true
-has_state kind.LessThan = true
-has_state kind.Both = true
-has_state kind.Either = true
-has_state kind.Complement = true
+has_state k = is_logical (sort_of (record_by k 0 0))
 
 -- the record of a word in memory
 abbrev pub record_in : Word → Record

@@ -90,9 +90,6 @@ module _ (rs : List Record) where
       unfolding solid_state
       state-is = e ∙ solid-stands rs q w₀.words t ready.carries w.known.states (rw same at stand)
 
-      pub carries-here : Carries rs q w.words t
-      carries-here = rw same ready.carries
-
       pub split-here : (left ≡ 0 → ⊥) → class ≡ 4 → Split (solid_state rs) left q
       split-here deep h = split-is (solid_state rs) q state state-is class f left deep h
 

@@ -28,8 +28,7 @@ use Rattle.cube.specs.Cubes.{root_cube}
 use Rattle.cube.proofs.Passed.{passed_root, same-root}
 use Rattle.cube.proofs.Cubes.{near-all, inside-itself}
 use Rattle.tape.specs.declared.Tape.{Tape}
-use Rattle.tape.specs.declared.Work.{Work}
-use Rattle.tape.specs.Lent.{LentTo, Starts}
+use Rattle.tape.specs.Lent.{Work, LentTo, Starts}
 use Rattle.tape.proofs.Carrying.{carries-inner}
 use Rattle.colour.specs.declared.State.{State}
 use Rattle.colour.specs.Entries.{judged_of, first_past}

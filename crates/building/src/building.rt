@@ -8,6 +8,7 @@ ghost use Rattle.cube.specs.Limits.{in_limits};
 ghost use Rattle.cube.specs.Cubes.{root_cube};
 ghost use Rattle.colour.specs.Entries.{first_past};
 ghost use Rattle.zonemap.specs.Map.{map_of};
+ghost use Rattle.tape.specs.Lent.{work};
 ghost use Rattle.tree.specs.Walk.{Ready};
 ghost use Rattle.building.specs.Build.{outcome, stored_of, over_root_with, build_of};
 
@@ -16,7 +17,7 @@ use crate::fresh::Fresh;
 use colour::Entries;
 use cube::Root;
 use replies::Refusal;
-use tape::{Tape, Word, Work};
+use tape::{Tape, Word};
 use tree::{Counter, Writer};
 
 // Builds the zone map of a sheet over a root at the start of `out`. A refusal leaves `out` unchanged. (The root comes as five numbers, as C passes them to
@@ -75,18 +76,17 @@ fn started<L: Source>(
     requires suited { L.suits from.now root }
     ensures { outcome result out.new ≡ stored_of (map_of root (L.leaves from.now (records_of sheet.now) root)) out.old }
 {
-    let mut work = Work {
-        words: [Word::EMPTY; 640],
-        known: Entries::blank(),
-    };
-    let t = work.start(sheet, offsets);
-    stored(sheet, &mut work, t, from, root, out)
+    let mut words = [Word::EMPTY; 640];
+    let mut known = Entries::blank();
+    let t = tape::start(sheet, offsets, &mut words, &mut known);
+    stored(sheet, &mut words, &mut known, t, from, root, out)
 }
 
 // Reply 8, or the map: the leaves are counted, then written.
 fn stored<L: Source>(
     sheet: &[u8],
-    work: &mut Work,
+    words: &mut [Word],
+    known: &mut Entries,
     t: Tape,
     from: &L,
     root: Root,
@@ -94,11 +94,11 @@ fn stored<L: Source>(
 ) -> Result<usize, Refusal>
     requires within { in_limits root ≡ true }
     requires suited { L.suits from.now root }
-    requires ready { Ready (records_of sheet.now) root.d (root_cube root) work.old t }
+    requires ready { Ready (records_of sheet.now) root.d (root_cube root) (work words.old known.old) t }
     ensures { outcome result out.new ≡ stored_of (map_of root (L.leaves from.now (records_of sheet.now) root)) out.old }
 {
     let mut counter = Counter::new();
-    from.give(sheet, work, t, root, &mut counter);
+    from.give(sheet, words, known, t, root, &mut counter);
     let n = counter.leaves;
     let need = zonemap::HEADER + 3 * n;
     if out.len() < need {
@@ -109,6 +109,6 @@ fn stored<L: Source>(
         out,
         at: zonemap::HEADER,
     };
-    from.give(sheet, work, t, root, &mut writer);
+    from.give(sheet, words, known, t, root, &mut writer);
     Ok(need)
 }

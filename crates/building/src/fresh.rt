@@ -6,8 +6,9 @@ ghost use Rattle.tree.specs.Solid.{solid_state, leaves_below};
 ghost use Rattle.tree.proofs.Cubes.{leaves-few};
 
 use crate::Source;
+use colour::Entries;
 use cube::Root;
-use tape::{Tape, Work};
+use tape::{Tape, Word};
 use tree::Sink;
 
 #[derive(Drop)]
@@ -18,8 +19,16 @@ impl Source for Fresh {
 
     ghost suits = { λ _ _. Unit {0} };
 
-    fn give<S: Sink>(&self, s: &[u8], work: &mut Work, t: Tape, root: Root, sink: &mut S) {
-        tree::give_leaves(s, work, t, root.cube(), root.d, sink);
+    fn give<S: Sink>(
+        &self,
+        s: &[u8],
+        words: &mut [Word],
+        known: &mut Entries,
+        t: Tape,
+        root: Root,
+        sink: &mut S,
+    ) {
+        tree::give_leaves(s, words, known, t, root.cube(), root.d, sink);
     }
 
     ghost few = { λ _ rs root within _. leaves-few (solid_state rs) root.d (root_cube root) (limits-sizes root within).1 };

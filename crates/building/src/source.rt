@@ -7,10 +7,12 @@ ghost use Rattle.cube.specs.declared.Root.{Root};
 ghost use Rattle.cube.specs.Limits.{in_limits};
 ghost use Rattle.cube.specs.Cubes.{root_cube};
 ghost use Rattle.zonemap.specs.declared.Leaf.{Leaf};
+ghost use Rattle.tape.specs.Lent.{work};
 ghost use Rattle.tree.specs.Walk.{Ready, Left};
 
+use colour::Entries;
 use cube::Root;
-use tape::{Tape, Work};
+use tape::{Tape, Word};
 use tree::Sink;
 
 pub trait Source {
@@ -21,12 +23,20 @@ pub trait Source {
     ghost suits: { Self → Root → Type 0 };
 
     // Hands them to a sink.
-    fn give<S: Sink>(&self, s: &[u8], work: &mut Work, t: Tape, root: Root, sink: &mut S)
+    fn give<S: Sink>(
+        &self,
+        s: &[u8],
+        words: &mut [Word],
+        known: &mut Entries,
+        t: Tape,
+        root: Root,
+        sink: &mut S,
+    )
         requires within { in_limits root ≡ true }
         requires suited { suits self.now root }
-        requires ready { Ready (records_of s.now) root.d (root_cube root) work.old t }
+        requires ready { Ready (records_of s.now) root.d (root_cube root) (work words.old known.old) t }
         requires room { S.room sink.old (length (leaves self.now (records_of s.now) root)) }
-        ensures work { Left (records_of s.now) t work.old work.new }
+        ensures work { Left (records_of s.now) t (work words.old known.old) (work words.new known.new) }
         ensures taken { sink.new ≡ S.after sink.old (leaves self.now (records_of s.now) root) };
 
     // No root in limits has room for more.

@@ -27,7 +27,7 @@ pub enum State {
 }
 
 // What is known of each record over a cube, by its number: its bounds, which are within the limit, and its state.
-#[derive(Drop)]
+#[derive(Clone, Copy)]
 pub struct Entries {
     pub bounds: [Interval; 256],
     pub states: [State; 256],

@@ -1,6 +1,10 @@
 -- Laws of the words of a tape that the documents name and that no proof of the code needs today: what a word's kind makes of its operands.
-use mathlib.Core.Path.{◌≡◌, refl}
-use Prim.Native.Nat.{ℕ}
+use mathlib.Core.Path.{◌≡◌, refl, sym, ap, ◌∙◌}
+use mathlib.Core.Bool.{true, false, cond}
+use mathlib.Core.List.{List}
+use Prim.Native.Nat.{ℕ, ◌<◌}
+use native.Mathlib.Omega.{arith}
+use lib.ListN.{length, get_or}
 use Rattle.std.specs.Prelude.{Result}
 use Rattle.replies.specs.declared.End.{End}
 use Rattle.interval.specs.declared.Interval.{Interval}
@@ -11,12 +15,16 @@ use Rattle.sheet.specs.declared.Comparison.TheVariants.{AtMost, LessThan}
 use Rattle.sheet.specs.declared.Record.TheVariants.{Face}
 use Rattle.cube.specs.declared.Cube.{Cube}
 use Rattle.colour.specs.declared.State.{State}
+use Rattle.colour.specs.declared.State.TheVariants.{Out, In, Single, Comp, Mixed}
 use Rattle.colour.specs.Bounds.{bounds_of}
-use Rattle.colour.specs.States.{face_state, state_with}
+use Rattle.colour.specs.States.{is_in, face_state, state_with}
+use Rattle.carried.specs.Words.{twin_by}
 use Rattle.tape.specs.declared.Kind.{Kind}
 use Rattle.tape.specs.declared.Kind.TheVariants as kind
 use Rattle.tape.specs.declared.Word.{Word}
-use Rattle.tape.specs.Memory.{record_by, word_in}
+use Rattle.tape.specs.Memory.{record_by, record_in, word_in, state_in}
+use Rattle.tape.specs.Shortening.{twin_in}
+use Rattle.tape.proofs.Slices.{get_d_any}
 use Rattle.tape.specs.Working.{bounds_word, state_word}
 
 -- the comparison of a face
@@ -48,3 +56,30 @@ module _ (q : Cube) (b : ℕ → Interval) (s : ℕ → State) (w : Word) where
   unfolding state_word state_with
   face-arm AtMost e k h = rw e h
   face-arm LessThan e k h = rw e h
+
+-- whose state a record of both has over the cubes inside; operands are bytes
+not-in : (s : State) → (s ≡ In → ⊥) → is_in s ≡ false
+not-in Out h = refl
+not-in In h = absurd (h refl)
+not-in (Single f) h = refl
+not-in (Comp f) h = refl
+not-in Mixed h = refl
+
+module _ (colours : List State) (twins : List ℕ) (w : Word) (long : length twins ≡ 256) (first : w.first < 256) (second : w.second < 256) where
+  abbrev it : ℕ
+  it = twin_by (state_in colours) (twin_in twins) w.number (record_in w)
+
+  both_is : w.kind ≡ kind.Both → it ≡ cond (is_in (state_in colours w.first)) (twin_in twins w.second) (cond (is_in (state_in colours w.second)) (twin_in twins w.first) w.number)
+  both_is k = ap (λ (x : Kind). twin_by (state_in colours) (twin_in twins) w.number (record_by x w.first w.second)) k
+
+  read : (a : ℕ) → a < 256 → get_or twins a 0 ≡ twin_in twins a
+  read a h = get_d_any twins a 0 a (omega (arith, long))
+
+  pub twin-1 : w.kind ≡ kind.Both → state_in colours w.first ≡ In → get_or twins w.second 0 ≡ it
+  twin-1 k h = read w.second second ∙ sym (both_is k ∙ rw h)
+
+  pub twin-2 : w.kind ≡ kind.Both → (state_in colours w.first ≡ In → ⊥) → state_in colours w.second ≡ In → get_or twins w.first 0 ≡ it
+  twin-2 k h i = read w.first first ∙ sym (both_is k ∙ rw (not-in (state_in colours w.first) h, i))
+
+  pub twin-3 : w.kind ≡ kind.Both → (state_in colours w.first ≡ In → ⊥) → (state_in colours w.second ≡ In → ⊥) → w.number ≡ it
+  twin-3 k h i = sym (both_is k ∙ rw (not-in (state_in colours w.first) h, not-in (state_in colours w.second) i))

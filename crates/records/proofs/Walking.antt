@@ -5,6 +5,8 @@ use mathlib.Core.List.{List}
 use Prim.Native.Nat.{ℕ, ◌+◌, ◌≤◌, ◌<◌}
 use native.Mathlib.Omega.{arith}
 use lib.ListN.{length, get_or}
+use mir.Syntax.{w64}
+use mir.Val.{Fits}
 use Rattle.sheet.specs.declared.Record.{Record}
 use Rattle.sheet.specs.declared.Record.TheVariants.{X}
 use Rattle.sheet.specs.Table.{row_at, Stands}
@@ -27,7 +29,17 @@ module _ (s offsets : List ℕ) where
     pub walking-end : length offsets ≤ n → n ≡ length (records_of s)
     walking-end h = omega (arith, w.listed.long, w.among)
 
+    -- a record that is there has its place in the list
+    pub walking-listed : n < length (records_of s) → n < length offsets
+    walking-listed h = omega (arith, w.listed.long)
+
     module _ (left : n < length offsets) where
+      pub walking-few : n < 256
+      walking-few = omega (arith, w.few)
+
+      pub walking-fits : Fits w64 (n + 1)
+      walking-fits = record { fits = omega (arith, walking-few) }
+
       pub walking-more : n < length (records_of s)
       walking-more = omega (arith, w.listed.long)
 

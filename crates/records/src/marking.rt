@@ -1,10 +1,11 @@
 // The faces among the records of a sheet.
 
-ghost use Rattle.std.specs.Prelude.{◌≡◌};
+ghost use Rattle.std.specs.Prelude.{◌≡◌, length};
 ghost use Rattle.sheet.specs.Records.{records_of};
 ghost use Rattle.records.specs.Faces.{is_face, Marks};
 
-use sheet::{Cursor, Record};
+use crate::by_kind;
+use sheet::Record;
 
 fn is_face(r: Record) -> bool
     ensures { result ≡ is_face r }
@@ -12,18 +13,17 @@ fn is_face(r: Record) -> bool
     matches!(r, Record::Face(_, _))
 }
 
-// Whether each record number names a face of the sheet.
-pub fn faces(s: &[u8]) -> [bool; 256]
+// Whether each number is that of a face among the sheet's `count` records.
+pub fn faces(s: &[u8], count: usize) -> [bool; 256]
+    requires { count ≡ length (records_of s.now) }
     ensures { Marks result (records_of s.now) }
 {
     let mut marks = [false; 256];
-    let mut c = Cursor::start();
-    for mark in marks.iter_mut() {
-        let Ok((r, next)) = c.read(s) else {
-            break;
-        };
-        *mark = is_face(r);
-        c = next;
+    let mut at = 3;
+    for n in 0..count {
+        let next = at + 1 + s[at] as usize;
+        marks[n] = is_face(by_kind::record_at(s, at));
+        at = next;
     }
     marks
 }

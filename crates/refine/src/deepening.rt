@@ -6,8 +6,9 @@ ghost use Rattle.replacing.specs.Walk.{Deeper};
 ghost use Rattle.refine.specs.Leaves.{few};
 
 use building::Source;
+use colour::Entries;
 use cube::Root;
-use tape::{Tape, Work};
+use tape::{Tape, Word};
 use tree::Sink;
 
 #[derive(Drop)]
@@ -20,8 +21,16 @@ impl Source for Deeper<'_> {
 
     ghost suits = { λ from root. Deeper from.map.now root };
 
-    fn give<S: Sink>(&self, s: &[u8], work: &mut Work, t: Tape, root: Root, sink: &mut S) {
-        replacing::walk(s, self.map, work, t, root.cube(), root.d, 0, sink);
+    fn give<S: Sink>(
+        &self,
+        s: &[u8],
+        words: &mut [Word],
+        known: &mut Entries,
+        t: Tape,
+        root: Root,
+        sink: &mut S,
+    ) {
+        replacing::walk(s, self.map, words, known, t, root.cube(), root.d, 0, sink);
     }
 
     ghost few = { λ from rs root _ suited. few from.map.now root suited (solid_state rs) };

@@ -14,6 +14,9 @@ impl Cursor {
         Cursor { at: 3, left: 256 }
     }
 
+    // The record that the cursor is at, with the cursor after it, or the offset at which it is refused. Made part of each loop that calls it: as a call of its own,
+    // it would pack the record and the cursor into words that the loop takes apart again, and `stop` would make records that it does not use.
+    #[inline(always)]
     pub fn read(self, s: &[u8]) -> Result<(Record, Cursor), usize>
         ensures { result ≡ read_at s.now self }
     {

@@ -8,14 +8,22 @@ use Rattle.cube.specs.declared.Cube.{Cube}
 use Rattle.colour.specs.declared.State.TheVariants.{Mixed}
 use Rattle.colour.specs.Bounds.{none}
 use Rattle.colour.specs.declared.State.{State}
+use Rattle.colour.specs.declared.Entries.{Entries}
 use Rattle.carried.specs.Words.{state_over, listed, Carried}
 use Rattle.carried.specs.Words as carried
 use Rattle.tape.specs.declared.Tape.{Tape}
-use Rattle.tape.specs.declared.Work.{Work}
 use Rattle.tape.specs.declared.Word.{Word}
 use Rattle.tape.specs.Memory.{words_in, bounds_in, state_in}
 use Rattle.tape.specs.Working.{OfSort}
 use Rattle.tape.specs.Shortening.{Parts}
+
+-- What a walk over cubes works with: the words of its tapes, and what is known of each record over the cube at hand.
+pub record Work : Type 0 where
+  pub words : List Word
+  pub known : Entries
+
+abbrev pub work : List Word → Entries → Work
+work words known = record { words = words; known = known }
 
 -- Constants are the same over every cube, so their entries are put in place once and are on no tape.
 abbrev pub is_constant : Record → Bool
@@ -62,7 +70,7 @@ module _ (rs : List Record) where
   abbrev pub Stand : Cube → List Word → Tape → List State → Type 0
   Stand q tape t colours = (a : ℕ) → listed in_place (words_in tape t.from t.to) a ≡ true → state_in colours a ≡ state_over rs q a
 
-  -- the same in the memory of a walk
+  -- the same in what a walk works with
   abbrev pub LentTo : Work → Type 0
   LentTo w = Lent w.known.bounds w.known.states
 

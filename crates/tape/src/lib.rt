@@ -3,15 +3,14 @@
 
 #![tactic(auto)]
 
-ghost use Rattle.std.specs.Prelude.{◌≡◌, length};
-
 mod listing;
 mod shortening;
 mod walking;
 mod words;
 mod working;
 
-use colour::Entries;
+pub use walking::{carry, start, state};
+pub use working::work_out;
 
 // What a word's record is made of. A face is of one of two kinds, by its comparison. There is none for a constant, which has no word.
 #[derive(Clone, Copy, Debug, PartialEq, Eq)]
@@ -46,14 +45,6 @@ pub struct Tape {
     pub mid: usize,
     pub to: usize,
     pub solid: u8,
-}
-
-// What a walk over cubes works with: the words of its tapes, and what is known of each record over the cube at hand. A panel has no heap, so both are arrays.
-#[derive(Drop)]
-pub struct Work {
-    pub words: [Word; 640],
-    pub known: Entries,
-    pub ghost words_long: { length words ≡ 640 },
 }
 
 const _: () = prove!(size_of::<Word>() == 4);

@@ -1,5 +1,4 @@
-// Numbers as text, built in a buffer: decimal, in ASCII. Nothing here does input or output. (The contract of `write!` does not say which bytes it writes; `Puts`
-// does.)
+// Numbers as text, built in a buffer: decimal, in ASCII. Nothing here does input or output.
 
 #![tactic(auto)]
 

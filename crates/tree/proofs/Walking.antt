@@ -13,9 +13,8 @@ use Rattle.colour.specs.declared.State.{State}
 use Rattle.colour.specs.States.{class_of}
 use Rattle.zonemap.specs.declared.Leaf.{Leaf}
 use Rattle.tape.specs.declared.Tape.{Tape}
-use Rattle.tape.specs.declared.Work.{Work}
 use Rattle.tape.specs.Memory.{state_in}
-use Rattle.tape.specs.Lent.{LentTo, Carries, StandIn, Stays}
+use Rattle.tape.specs.Lent.{Work, LentTo, Carries, StandIn, Stays}
 use Rattle.tape.proofs.Carrying.{carries-inner, solid-stands, stays_same, stays_on, stays-later}
 use Rattle.tree.specs.Visit.{upto}
 use Rattle.tree.specs.Solid.{solid_state, leaf_by, leaf_of, leaves_below}

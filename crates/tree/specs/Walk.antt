@@ -6,8 +6,7 @@ use Rattle.cube.specs.Limits.{Near}
 use Rattle.colour.specs.declared.State.{State}
 use Rattle.colour.specs.Entries.{first_past}
 use Rattle.tape.specs.declared.Tape.{Tape}
-use Rattle.tape.specs.declared.Work.{Work}
-use Rattle.tape.specs.Lent.{LentTo, Carries, Stays}
+use Rattle.tape.specs.Lent.{Work, LentTo, Carries, Stays}
 use Rattle.tree.specs.Solid.{is_gray}
 
 -- a cube that is split

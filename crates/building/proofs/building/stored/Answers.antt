@@ -5,6 +5,7 @@ use native.Mathlib.Nat.{zero-add}
 use Prim.Native.Nat.{ℕ, ◌+◌}
 use lib.ListN.{length}
 use Rattle.zonemap.specs.declared.Leaf.{Leaf}
+use Rattle.tape.specs.Lent.{work}
 use Rattle.tree.specs.declared.sink.Counter.{Counter}
 use Rattle.tree.specs.declared.sink.Writer.{Writer}
 use Rattle.tree.specs.Sinks.{counted}
@@ -20,7 +21,7 @@ pub returns-then-out-need : goal.returns-then-out-need
 returns-then-out-need g c = too_short _ _ _ (count-is _ c.new-counter.ensures _ _ c.give.ensures.taken) _ c.if-out-need.true
 
 pub give-requires-2-clause-ready : goal.give-requires-2-clause-ready
-give-requires-2-clause-ready g c = ready-again _ _ _ _ _ c.give.new.work c.requires.ready c.give.ensures.work
+give-requires-2-clause-ready g c = ready-again _ _ _ _ _ (work c.give.new.words c.give.new.known) c.requires.ready c.give.ensures.work
 
 pub returns : goal.returns
 returns g c =

@@ -15,3 +15,6 @@ pub returns : goal.returns
 returns c =
     let t = mapped-good Map _ _ c.map_err.ensures.cases _ c.in_ok-root.was in
     search (rules, map-opened, sheet-good, good-count)
+
+pub faces-faces-requires : goal.faces-faces-requires
+faces-faces-requires c = search (rules, good-count)

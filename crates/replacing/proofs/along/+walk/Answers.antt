@@ -4,6 +4,7 @@ use native.Mathlib.Omega.{arith}
 use lib.ListN.{length}
 use Prim.Native.Nat.{◌+◌}
 use Rattle.sheet.specs.Records.{records_of}
+use Rattle.tape.specs.Lent.{work}
 use Rattle.zonemap.specs.Opening.{leaves_of}
 use Rattle.tree.specs.Solid.{solid_state}
 use Rattle.tree.proofs.Cubes.{near-split}
@@ -40,7 +41,7 @@ returns-then-leaf-q-clause-taken g t c =
 pub loop-k-init : goal.loop-k-init
 loop-k-init g t c = (
   walked_start _ _ _ _ c.requires.along c.requires.ready.near (inner-leaf _ _ _ _ c.requires.along c.requires.ready.near _ c.leaf_at-leaf.ensures c.if-leaf-q.false),
-  left-as-is _ _ c.carry-u.new.self c.carry-u.new.self refl (rw (c.carry-u.ensures.known, c.carry-u.ensures.colours) c.work_out-decided.ensures.lent),
+  left-as-is _ _ (work c.carry-u.new.words c.work_out-decided.new.known) _ refl c.work_out-decided.ensures.lent,
   took-nothing _ _ g.S.Sink.laws _ _ _ _ _,
 )
 
@@ -61,7 +62,7 @@ walk-next-requires g t c κs within =
       (
         within,
         (
-          ready-child _ _ _ _ _ c.requires.ready c.carry-u.new.self _ u.carries (rw c.work_out-decided.ensures.words at u.stays) u.before _ w.1 deep _ c.loop-k-test.true _ c.child.ensures,
+          ready-child _ _ _ _ _ c.requires.ready (work c.carry-u.new.words c.work_out-decided.new.known) _ u.carries u.stays u.before _ w.1 deep _ c.loop-k-test.true _ c.child.ensures,
           (
             along-child _ _ _ _ a near _ _ w.0 c.loop-k-test.true _ c.child.ensures,
             rw (same-between _ _ _ _ a near _ _ w.0 c.loop-k-test.true _ c.child.ensures (solid_state (records_of c.args.s.now)) c.loop-k.next (length (leaves_of c.args.map.now)))
@@ -86,7 +87,7 @@ loop-k-preserved g t c =
 pub returns-clause-work : goal.returns-clause-work
 returns-clause-work g t c =
     let u = c.carry-u.ensures in
-    left_below _ _ _ _ _ c.requires.ready c.carry-u.new.self _ u.carries (rw c.work_out-decided.ensures.words at u.stays) u.before _ c.loop-k.invariant.1
+    left_below _ _ _ _ _ c.requires.ready (work c.carry-u.new.words c.work_out-decided.new.known) _ u.carries u.stays u.before _ c.loop-k.invariant.1
 
 pub returns-clause-passed : goal.returns-clause-passed
 returns-clause-passed g t c = walked_all _ _ _ _ c.requires.along c.requires.ready.near _ _ c.loop-k.invariant.0 (omega (arith, c.loop-k-test.false))

@@ -1,7 +1,7 @@
--- `tape::Work::carry` meets its contract: either tape is carried down.
+-- `tape::walking::carry` meets its contract: either tape is carried down.
 use borrow.Author.Rules.{rules}
 use Rattle.tape.proofs.Carrying.{shorter-carries, shorter-stays, shorter-before}
-use Rattle.tape.proofs.Work.carry.Goals as goal
+use Rattle.tape.proofs.walking.carry.Goals as goal
 
 pub returns-then-is_worth-clause-carries : goal.returns-then-is_worth-clause-carries
 returns-then-is_worth-clause-carries c = search (rules, shorter-carries)

@@ -1,6 +1,6 @@
 -- Laws of the words of a tape that the documents name and that no proof of the code needs today: what a word's kind makes of its operands.
 use mathlib.Core.Path.{◌≡◌, refl, sym, ap, ◌∙◌}
-use mathlib.Core.Bool.{true, false, cond}
+use mathlib.Core.Bool.{false, cond}
 use mathlib.Core.List.{List}
 use Prim.Native.Nat.{ℕ, ◌<◌}
 use native.Mathlib.Omega.{arith}
@@ -57,7 +57,7 @@ module _ (q : Cube) (b : ℕ → Interval) (s : ℕ → State) (w : Word) where
   face-arm AtMost e k h = rw e h
   face-arm LessThan e k h = rw e h
 
--- whose state a record of both has over the cubes inside; operands are bytes
+-- whose state a record of both has over the cubes inside; an operand is a byte
 not-in : (s : State) → (s ≡ In → ⊥) → is_in s ≡ false
 not-in Out h = refl
 not-in In h = absurd (h refl)
@@ -65,7 +65,7 @@ not-in (Single f) h = refl
 not-in (Comp f) h = refl
 not-in Mixed h = refl
 
-module _ (colours : List State) (twins : List ℕ) (w : Word) (long : length twins ≡ 256) (first : w.first < 256) (second : w.second < 256) where
+module _ (colours : List State) (twins : List ℕ) (w : Word) (long : length twins ≡ 256) where
   abbrev it : ℕ
   it = twin_by (state_in colours) (twin_in twins) w.number (record_in w)
 
@@ -75,11 +75,11 @@ module _ (colours : List State) (twins : List ℕ) (w : Word) (long : length twi
   read : (a : ℕ) → a < 256 → get_or twins a 0 ≡ twin_in twins a
   read a h = get_d_any twins a 0 a (omega (arith, long))
 
-  pub twin-1 : w.kind ≡ kind.Both → state_in colours w.first ≡ In → get_or twins w.second 0 ≡ it
-  twin-1 k h = read w.second second ∙ sym (both_is k ∙ rw h)
+  pub twin-1 : w.second < 256 → w.kind ≡ kind.Both → state_in colours w.first ≡ In → get_or twins w.second 0 ≡ it
+  twin-1 second k h = read w.second second ∙ sym (both_is k ∙ rw h)
 
-  pub twin-2 : w.kind ≡ kind.Both → (state_in colours w.first ≡ In → ⊥) → state_in colours w.second ≡ In → get_or twins w.first 0 ≡ it
-  twin-2 k h i = read w.first first ∙ sym (both_is k ∙ rw (not-in (state_in colours w.first) h, i))
+  pub twin-2 : w.first < 256 → w.kind ≡ kind.Both → (state_in colours w.first ≡ In → ⊥) → state_in colours w.second ≡ In → get_or twins w.first 0 ≡ it
+  twin-2 first k h i = read w.first first ∙ sym (both_is k ∙ rw (not-in (state_in colours w.first) h, i))
 
   pub twin-3 : w.kind ≡ kind.Both → (state_in colours w.first ≡ In → ⊥) → (state_in colours w.second ≡ In → ⊥) → w.number ≡ it
   twin-3 k h i = sym (both_is k ∙ rw (not-in (state_in colours w.first) h, not-in (state_in colours w.second) i))

@@ -39,7 +39,7 @@ take_unseen-requires-then-left-eq1 g t c =
     let same : c.else-left-eq0.sink ≡ c.args.sink.now =
     elim c.else-left-eq0.branch [ else-left-eq0-via-else-left-eq0 w ↦ search rules | else-left-eq0-via-then-left-eq0+else-take_unseen w ↦ search rules ] in
     let w = c.work_out-decided.ensures in
-    let e = eight _ _ _ (split-here _ _ _ _ _ c.requires.ready (work _ c.work_out-decided.new.known) refl w.lent w.stand _ c.state-state.ensures _ c.class-class.ensures c.if-left-eq0-2.false c.if-class-ne4.false) c.if-left-eq1.true in
+    let e = eight _ _ _ (split-here _ _ _ _ _ c.requires.ready (work _ c.work_out-decided.new.known) refl w.lent w.stand _ c.state-state.ensures _ c.class-class.ensures (λ e. omega (arith, e)) (omega arith)) c.if-left-eq1.true in
     rw same (rw e at c.requires.room)
 
 pub returns-then-take_unseen-2-clause-taken : goal.returns-then-take_unseen-2-clause-taken
@@ -48,7 +48,7 @@ returns-then-take_unseen-2-clause-taken g t c =
     elim c.else-left-eq0.branch [ else-left-eq0-via-else-left-eq0 w ↦ search rules | else-left-eq0-via-then-left-eq0+else-take_unseen w ↦ search rules ] in
     let w = c.work_out-decided.ensures in
     rw same
-    at (c.take_unseen-then-left-eq1.ensures.taken c.if-take_unseen-2.true _ (eight _ _ _ (split-here _ _ _ _ _ c.requires.ready (work _ c.work_out-decided.new.known) refl w.lent w.stand _ c.state-state.ensures _ c.class-class.ensures c.if-left-eq0-2.false c.if-class-ne4.false) c.if-left-eq1.true))
+    at (c.take_unseen-then-left-eq1.ensures.taken c.if-take_unseen-2.true _ (eight _ _ _ (split-here _ _ _ _ _ c.requires.ready (work _ c.work_out-decided.new.known) refl w.lent w.stand _ c.state-state.ensures _ c.class-class.ensures (λ e. omega (arith, e)) (omega arith)) c.if-left-eq1.true))
 
 pub loop-k-init : goal.loop-k-init
 loop-k-init g t c =
@@ -58,7 +58,7 @@ loop-k-init g t c =
     elim c.else-left-eq1.branch [ else-left-eq1-via-else-left-eq1 w ↦ search rules | else-left-eq1-via-then-left-eq1+else-take_unseen-2 w ↦ search rules ] in
     let w = c.work_out-decided.ensures in (
       left-as-is _ _ (work c.carry-u.new.words c.work_out-decided.new.known) _ refl c.work_out-decided.ensures.lent,
-      rw (same-2, same) (took-none _ _ g.S.Sink.laws _ _ _ _ c.requires.room (split-here _ _ _ _ _ c.requires.ready (work _ c.work_out-decided.new.known) refl w.lent w.stand _ c.state-state.ensures _ c.class-class.ensures c.if-left-eq0-2.false c.if-class-ne4.false)),
+      rw (same-2, same) (took-none _ _ g.S.Sink.laws _ _ _ _ c.requires.room (split-here _ _ _ _ _ c.requires.ready (work _ c.work_out-decided.new.known) refl w.lent w.stand _ c.state-state.ensures _ c.class-class.ensures (λ e. omega (arith, e)) (omega arith))),
     )
 
 pub give_leaves-requires : goal.give_leaves-requires
@@ -69,7 +69,7 @@ give_leaves-requires g t c κs within =
     elim c.else-left-eq1.branch [ else-left-eq1-via-else-left-eq1 w ↦ search rules | else-left-eq1-via-then-left-eq1+else-take_unseen-2 w ↦ search rules ] in
     let w = c.work_out-decided.ensures in
     let u = c.carry-u.ensures in
-    let split = split-here _ _ _ _ _ c.requires.ready (work _ c.work_out-decided.new.known) refl w.lent w.stand _ c.state-state.ensures _ c.class-class.ensures c.if-left-eq0-2.false c.if-class-ne4.false in (
+    let split = split-here _ _ _ _ _ c.requires.ready (work _ c.work_out-decided.new.known) refl w.lent w.stand _ c.state-state.ensures _ c.class-class.ensures (λ e. omega (arith, e)) (omega arith) in (
       omega (arith, c.decreases, split.deep),
       (
         within,
@@ -87,7 +87,7 @@ loop-k-preserved g t c =
     let same-2 : c.else-left-eq1.sink ≡ c.else-left-eq0.sink =
     elim c.else-left-eq1.branch [ else-left-eq1-via-else-left-eq1 w ↦ search rules | else-left-eq1-via-then-left-eq1+else-take_unseen-2 w ↦ search rules ] in
     let w = c.work_out-decided.ensures in
-    let split = split-here _ _ _ _ _ c.requires.ready (work _ c.work_out-decided.new.known) refl w.lent w.stand _ c.state-state.ensures _ c.class-class.ensures c.if-left-eq0-2.false c.if-class-ne4.false in (
+    let split = split-here _ _ _ _ _ c.requires.ready (work _ c.work_out-decided.new.known) refl w.lent w.stand _ c.state-state.ensures _ c.class-class.ensures (λ e. omega (arith, e)) (omega arith) in (
       left-next _ _ _ _ _ c.loop-k.invariant.0 c.give_leaves.ensures.work,
       rw (same-2, same) (took-child _ _ g.S.Sink.laws _ _ _ _ c.requires.room split _ c.loop-k-test.true _ c.child.ensures _ (rw (same-2, same) at c.loop-k.invariant.1) _ c.give_leaves.ensures.taken),
     )
@@ -105,5 +105,5 @@ returns-clause-taken g t c =
     let same-2 : c.else-left-eq1.sink ≡ c.else-left-eq0.sink =
     elim c.else-left-eq1.branch [ else-left-eq1-via-else-left-eq1 w ↦ search rules | else-left-eq1-via-then-left-eq1+else-take_unseen-2 w ↦ search rules ] in
     let w = c.work_out-decided.ensures in
-    took-all _ _ g.S.Sink.laws _ _ _ _ c.requires.room (split-here _ _ _ _ _ c.requires.ready (work _ c.work_out-decided.new.known) refl w.lent w.stand _ c.state-state.ensures _ c.class-class.ensures c.if-left-eq0-2.false c.if-class-ne4.false)
+    took-all _ _ g.S.Sink.laws _ _ _ _ c.requires.room (split-here _ _ _ _ _ c.requires.ready (work _ c.work_out-decided.new.known) refl w.lent w.stand _ c.state-state.ensures _ c.class-class.ensures (λ e. omega (arith, e)) (omega arith))
     _ (omega (arith, c.loop-k-test.false)) (omega (arith, c.loop-k.auto.k-end)) _ (rw (same-2, same) at c.loop-k.invariant.1)

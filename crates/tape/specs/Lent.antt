@@ -70,12 +70,9 @@ module _ (rs : List Record) where
   abbrev pub Stand : Cube → List Word → Tape → List State → Type 0
   Stand q tape t colours = (a : ℕ) → listed in_place (words_in tape t.from t.to) a ≡ true → state_in colours a ≡ state_over rs q a
 
-  -- the same in what a walk works with
+  -- what `Lent` says, of what a walk works with
   abbrev pub LentTo : Work → Type 0
   LentTo w = Lent w.known.bounds w.known.states
-
-  abbrev pub StandIn : Cube → Tape → Work → Type 0
-  StandIn q t w = Stand q w.words t w.known.states
 
 -- the words from a place on are as they were
 pub record Stays (from : ℕ) (tape₀ tape : List Word) : Type 0 where

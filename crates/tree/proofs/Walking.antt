@@ -1,10 +1,12 @@
 -- A walk over a tree of cubes with what is carried down: what is asked at each cube, what the sink takes, and what is left there.
 use mathlib.Core.Path.{◌≡◌, refl, sym, ap, ◌∙◌}
-use mathlib.Core.Logic.{◌⊎◌, ⊎_elim}
 use mathlib.Core.List.{List, [], ◌∷◌}
 use Prim.Native.Nat.{ℕ, zero, suc, ◌+◌, ◌-◌, ◌≤◌, ◌<◌}
 use native.Mathlib.Omega.{arith}
+use lib.Dec.{eqb}
 use lib.ListN.{length, length-append}
+use borrow.Author.Tests.{eqb-true, eqb-false}
+use Rattle.integers.proofs.Order.{by-test}
 use Rattle.sheet.specs.declared.Record.{Record}
 use Rattle.cube.specs.declared.Cube.{Cube}
 use Rattle.cube.specs.Cubes.{child_of}
@@ -14,7 +16,7 @@ use Rattle.colour.specs.States.{class_of}
 use Rattle.zonemap.specs.declared.Leaf.{Leaf}
 use Rattle.tape.specs.declared.Tape.{Tape}
 use Rattle.tape.specs.Memory.{state_in}
-use Rattle.tape.specs.Lent.{Work, LentTo, Carries, StandIn, Stays}
+use Rattle.tape.specs.Lent.{Work, LentTo, Carries, Stand, Stays}
 use Rattle.tape.proofs.Carrying.{carries-inner, solid-stands, stays_same, stays_on, stays-later}
 use Rattle.tree.specs.Visit.{upto}
 use Rattle.tree.specs.Solid.{solid_state, leaf_by, leaf_of, leaves_below}
@@ -83,17 +85,19 @@ module _ (rs : List Record) where
 
   module _ (left : ℕ) (q : Cube) (w₀ : Work) (t : Tape) (ready : Ready rs left q w₀ t) where
     -- the same cube, after its tape was worked out: `state` is what was read from the solid's place
-    module _ (w : Work) (same : w.words ≡ w₀.words) (lent : LentTo rs w) (stand : StandIn rs q t w)
-        (state : State) (e : state ≡ state_in w.known.states t.solid) (class : ℕ) (f : class ≡ class_of state) where
+    module _ (colours : List State) (stand : Stand rs q w₀.words t colours) (state : State) (e : state ≡ state_in colours t.solid) (class : ℕ) (f : class ≡ class_of state) where
       pub state-is : state ≡ solid_state rs q
       unfolding solid_state
-      state-is = e ∙ solid-stands rs q w₀.words t ready.carries w.known.states (rw same at stand)
+      state-is = e ∙ solid-stands rs q w₀.words t ready.carries colours stand
 
       pub split-here : (left ≡ 0 → ⊥) → class ≡ 4 → Split (solid_state rs) left q
       split-here deep h = split-is (solid_state rs) q state state-is class f left deep h
 
-      pub one-leaf : ◌⊎◌ (left ≡ 0) ((left ≡ 0 → ⊥) × (class ≡ 4 → ⊥)) → leaves_below (solid_state rs) left q ≡ leaf_of (solid_state rs) q ∷ []
-      one-leaf h = ⊎_elim (leaves-end (solid_state rs) left q) (λ b. flat-is (solid_state rs) q state state-is class f left b.1) h
+      pub one-leaf : ((left ≡ 0 → ⊥) → class ≡ 4 → ⊥) → leaves_below (solid_state rs) left q ≡ leaf_of (solid_state rs) q ∷ []
+      one-leaf h =
+          by-test (eqb left 0)
+          (λ t. leaves-end (solid_state rs) left q (eqb-true left 0 t))
+          (λ t. flat-is (solid_state rs) q state state-is class f left (h (eqb-false left 0 t)))
 
     -- a child, with the tape that is carried down, after the children before it
     module _ (w₁ : Work) (u : Tape) (carries : Carries rs q w₁.words u) (stays : Stays t.from w₀.words w₁.words) (below : u.from ≤ t.from) (w : Work) (before : Left rs u w₁ w) where

@@ -24,22 +24,22 @@ put-requires g t c =
     elim c.else-left-eq0.branch [ else-left-eq0-via-else-left-eq0 w ↦ search rules | else-left-eq0-via-then-left-eq0+else-take_unseen w ↦ search rules ] in
     let w = c.work_out-decided.ensures in
     rw same
-    (room-one _ _ g.S.Sink.laws _ _ _ _ c.requires.room (one-leaf _ _ _ _ _ c.requires.ready (work _ c.work_out-decided.new.known) refl w.lent w.stand _ c.state-state.ensures _ c.class-class.ensures c.then-left-eq0-2.either))
+    (room-one _ _ g.S.Sink.laws _ _ _ _ c.requires.room (one-leaf _ _ _ _ _ c.requires.ready c.work_out-decided.new.known.states w.stand _ c.state-state.ensures _ c.class-class.ensures (λ d e. omega (arith, d, e))))
 
 pub returns-then-left-eq0-2-clause-taken : goal.returns-then-left-eq0-2-clause-taken
 returns-then-left-eq0-2-clause-taken g t c =
     let same : c.else-left-eq0.sink ≡ c.args.sink.now =
     elim c.else-left-eq0.branch [ else-left-eq0-via-else-left-eq0 w ↦ search rules | else-left-eq0-via-then-left-eq0+else-take_unseen w ↦ search rules ] in
     let w = c.work_out-decided.ensures in
-    took-one _ _ g.S.Sink.laws _ _ _ _ c.requires.room (one-leaf _ _ _ _ _ c.requires.ready (work _ c.work_out-decided.new.known) refl w.lent w.stand _ c.state-state.ensures _ c.class-class.ensures c.then-left-eq0-2.either)
-    _ (state-is _ _ _ _ _ c.requires.ready (work _ c.work_out-decided.new.known) refl w.lent w.stand _ c.state-state.ensures _ c.class-class.ensures) _ c.leaf.ensures _ (rw same at c.put.ensures)
+    took-one _ _ g.S.Sink.laws _ _ _ _ c.requires.room (one-leaf _ _ _ _ _ c.requires.ready c.work_out-decided.new.known.states w.stand _ c.state-state.ensures _ c.class-class.ensures (λ d e. omega (arith, d, e)))
+    _ (state-is _ _ _ _ _ c.requires.ready c.work_out-decided.new.known.states w.stand _ c.state-state.ensures _ c.class-class.ensures) _ c.leaf.ensures _ (rw same at c.put.ensures)
 
 pub take_unseen-requires-then-left-eq1 : goal.take_unseen-requires-then-left-eq1
 take_unseen-requires-then-left-eq1 g t c =
     let same : c.else-left-eq0.sink ≡ c.args.sink.now =
     elim c.else-left-eq0.branch [ else-left-eq0-via-else-left-eq0 w ↦ search rules | else-left-eq0-via-then-left-eq0+else-take_unseen w ↦ search rules ] in
     let w = c.work_out-decided.ensures in
-    let e = eight _ _ _ (split-here _ _ _ _ _ c.requires.ready (work _ c.work_out-decided.new.known) refl w.lent w.stand _ c.state-state.ensures _ c.class-class.ensures (λ e. omega (arith, e)) (omega arith)) c.if-left-eq1.true in
+    let e = eight _ _ _ (split-here _ _ _ _ _ c.requires.ready c.work_out-decided.new.known.states w.stand _ c.state-state.ensures _ c.class-class.ensures (λ e. omega (arith, e)) (omega arith)) c.if-left-eq1.true in
     rw same (rw e at c.requires.room)
 
 pub returns-then-take_unseen-2-clause-taken : goal.returns-then-take_unseen-2-clause-taken
@@ -48,7 +48,7 @@ returns-then-take_unseen-2-clause-taken g t c =
     elim c.else-left-eq0.branch [ else-left-eq0-via-else-left-eq0 w ↦ search rules | else-left-eq0-via-then-left-eq0+else-take_unseen w ↦ search rules ] in
     let w = c.work_out-decided.ensures in
     rw same
-    at (c.take_unseen-then-left-eq1.ensures.taken c.if-take_unseen-2.true _ (eight _ _ _ (split-here _ _ _ _ _ c.requires.ready (work _ c.work_out-decided.new.known) refl w.lent w.stand _ c.state-state.ensures _ c.class-class.ensures (λ e. omega (arith, e)) (omega arith)) c.if-left-eq1.true))
+    at (c.take_unseen-then-left-eq1.ensures.taken c.if-take_unseen-2.true _ (eight _ _ _ (split-here _ _ _ _ _ c.requires.ready c.work_out-decided.new.known.states w.stand _ c.state-state.ensures _ c.class-class.ensures (λ e. omega (arith, e)) (omega arith)) c.if-left-eq1.true))
 
 pub loop-k-init : goal.loop-k-init
 loop-k-init g t c =
@@ -57,8 +57,8 @@ loop-k-init g t c =
     let same-2 : c.else-left-eq1.sink ≡ c.else-left-eq0.sink =
     elim c.else-left-eq1.branch [ else-left-eq1-via-else-left-eq1 w ↦ search rules | else-left-eq1-via-then-left-eq1+else-take_unseen-2 w ↦ search rules ] in
     let w = c.work_out-decided.ensures in (
-      left-as-is _ _ (work c.carry-u.new.words c.work_out-decided.new.known) _ refl c.work_out-decided.ensures.lent,
-      rw (same-2, same) (took-none _ _ g.S.Sink.laws _ _ _ _ c.requires.room (split-here _ _ _ _ _ c.requires.ready (work _ c.work_out-decided.new.known) refl w.lent w.stand _ c.state-state.ensures _ c.class-class.ensures (λ e. omega (arith, e)) (omega arith))),
+      left-as-is _ _ (work c.carry-u.new.words c.work_out-decided.new.known) _ refl w.lent,
+      rw (same-2, same) (took-none _ _ g.S.Sink.laws _ _ _ _ c.requires.room (split-here _ _ _ _ _ c.requires.ready c.work_out-decided.new.known.states w.stand _ c.state-state.ensures _ c.class-class.ensures (λ e. omega (arith, e)) (omega arith))),
     )
 
 pub give_leaves-requires : goal.give_leaves-requires
@@ -69,7 +69,7 @@ give_leaves-requires g t c κs within =
     elim c.else-left-eq1.branch [ else-left-eq1-via-else-left-eq1 w ↦ search rules | else-left-eq1-via-then-left-eq1+else-take_unseen-2 w ↦ search rules ] in
     let w = c.work_out-decided.ensures in
     let u = c.carry-u.ensures in
-    let split = split-here _ _ _ _ _ c.requires.ready (work _ c.work_out-decided.new.known) refl w.lent w.stand _ c.state-state.ensures _ c.class-class.ensures (λ e. omega (arith, e)) (omega arith) in (
+    let split = split-here _ _ _ _ _ c.requires.ready c.work_out-decided.new.known.states w.stand _ c.state-state.ensures _ c.class-class.ensures (λ e. omega (arith, e)) (omega arith) in (
       omega (arith, c.decreases, split.deep),
       (
         within,
@@ -87,14 +87,13 @@ loop-k-preserved g t c =
     let same-2 : c.else-left-eq1.sink ≡ c.else-left-eq0.sink =
     elim c.else-left-eq1.branch [ else-left-eq1-via-else-left-eq1 w ↦ search rules | else-left-eq1-via-then-left-eq1+else-take_unseen-2 w ↦ search rules ] in
     let w = c.work_out-decided.ensures in
-    let split = split-here _ _ _ _ _ c.requires.ready (work _ c.work_out-decided.new.known) refl w.lent w.stand _ c.state-state.ensures _ c.class-class.ensures (λ e. omega (arith, e)) (omega arith) in (
+    let split = split-here _ _ _ _ _ c.requires.ready c.work_out-decided.new.known.states w.stand _ c.state-state.ensures _ c.class-class.ensures (λ e. omega (arith, e)) (omega arith) in (
       left-next _ _ _ _ _ c.loop-k.invariant.0 c.give_leaves.ensures.work,
       rw (same-2, same) (took-child _ _ g.S.Sink.laws _ _ _ _ c.requires.room split _ c.loop-k-test.true _ c.child.ensures _ (rw (same-2, same) at c.loop-k.invariant.1) _ c.give_leaves.ensures.taken),
     )
 
 pub returns-clause-work : goal.returns-clause-work
 returns-clause-work g t c =
-    let w = c.work_out-decided.ensures in
     let u = c.carry-u.ensures in
     left_below _ _ _ _ _ c.requires.ready (work c.carry-u.new.words c.work_out-decided.new.known) _ u.carries u.stays u.before _ c.loop-k.invariant.0
 
@@ -105,5 +104,5 @@ returns-clause-taken g t c =
     let same-2 : c.else-left-eq1.sink ≡ c.else-left-eq0.sink =
     elim c.else-left-eq1.branch [ else-left-eq1-via-else-left-eq1 w ↦ search rules | else-left-eq1-via-then-left-eq1+else-take_unseen-2 w ↦ search rules ] in
     let w = c.work_out-decided.ensures in
-    took-all _ _ g.S.Sink.laws _ _ _ _ c.requires.room (split-here _ _ _ _ _ c.requires.ready (work _ c.work_out-decided.new.known) refl w.lent w.stand _ c.state-state.ensures _ c.class-class.ensures (λ e. omega (arith, e)) (omega arith))
+    took-all _ _ g.S.Sink.laws _ _ _ _ c.requires.room (split-here _ _ _ _ _ c.requires.ready c.work_out-decided.new.known.states w.stand _ c.state-state.ensures _ c.class-class.ensures (λ e. omega (arith, e)) (omega arith))
     _ (omega (arith, c.loop-k-test.false)) (omega (arith, c.loop-k.auto.k-end)) _ (rw (same-2, same) at c.loop-k.invariant.1)

@@ -14,7 +14,7 @@ pub fn open(sheet: &[u8], map: &[u8], p: Point) -> Result<Pair, Refusal>
     ensures { result ≡ opened_of sheet.now map.now p }
 {
     let count = sheet::check(sheet)?;
-    let faces = records::faces(sheet, count);
+    let faces = records::faces_among(sheet, count);
     let Found { root, at } = zonemap::find(map, &faces, p).map_err(Refusal::Map)?;
     Ok(Pair { count, root, at })
 }

@@ -1,57 +1,60 @@
--- The loop that marks the faces of a sheet: its invariant is that the first n records are done, and the list says of each whether it is a face.
-use mathlib.Core.Path.{◌≡◌, refl, ◌∙◌}
+-- The loop of `faces`: its invariant is that the first n records are done, and the list says of each whether it is a face.
+use Rattle.std.specs.Prelude.{Err, Ok, Result}
+use mathlib.Core.Path.{◌≡◌, refl, ap, ◌∙◌}
 use mathlib.Core.Bool.{Bool, false}
-use mathlib.Core.List.{List}
+use mathlib.Core.List.{List, [], ◌∷◌, ◌++◌}
 use Prim.Native.Nat.{ℕ, ◌+◌, ◌≤◌, ◌<◌}
+use native.Mathlib.Numerals.{add-one}
 use native.Mathlib.Omega.{arith}
-use lib.ListN.{length, get_or, take, set, replicate, length-set, length-take}
-use lib.Seq.{take_all}
+use lib.ListN.{length, take, set, replicate, length-set}
+use lib.Seq.{take-suc}
+use Rattle.sheet.specs.declared.Cursor.{Cursor}
 use Rattle.sheet.specs.declared.Record.{Record}
 use Rattle.sheet.specs.declared.Record.TheVariants.{X}
-use Rattle.std.specs.Prelude.{Some}
-use Rattle.sheet.specs.Table.{row_at, Stands}
-use Rattle.sheet.specs.Records.{records_of}
-use Rattle.sheet.proofs.Walk.{Before, before-first, before-next, stands, stands-taken}
+use Rattle.sheet.specs.Table.{read_at}
+use Rattle.sheet.specs.Records.{start, records_of}
+use Rattle.sheet.proofs.Walk.{At, at-start, at_next, found_number, found-record, all_read}
 use Rattle.sheet.proofs.Good.{records-few}
-use Rattle.sheet.proofs.Arrays.{Reads, reads_more, filled-with}
-use Rattle.records.specs.Faces.{is_face, has_face, Marks}
+use Rattle.sheet.proofs.Arrays.{Reads, filled-with}
+use Rattle.records.specs.Faces.{is_face, Marks}
+use Rattle.records.proofs.Marked.{marked-all, marked-next}
 
-pub record Marking (s : List ℕ) (count : ℕ) (marks : List Bool) (at n : ℕ) : Type 0 where
-  pub all : count ≡ length (records_of s)
-  pub walk : Before s at n
+pub record Marking (s : List ℕ) (marks : List Bool) (c : Cursor) (n : ℕ) : Type 0 where
+  pub walk : At s c n
   pub long : length marks ≡ 256
   pub reads : Reads is_face X marks (take n (records_of s))
 
-pub marking-start : (s : List ℕ) (count : ℕ) → count ≡ length (records_of s) → Marking s count (replicate 256 false) 3 0
-marking-start s count e = record { all = e; walk = before-first s; long = refl; reads = filled-with false 256 }
+pub marking-start : (s : List ℕ) (c : Cursor) → c ≡ start → Marking s (replicate 256 false) c 0
+marking-start s c e = record { walk = rw e (at-start s); long = refl; reads = filled-with false 256 }
 
-module _ (s : List ℕ) (count : ℕ) (marks : List Bool) (at n : ℕ) (w : Marking s count marks at n) where
-  pub marking-end : count ≤ n → Marks marks (records_of s)
-  unfolding has_face
-  marking-end h = record { long = w.long; each = rw (take_all n (records_of s) (omega (arith, w.all))) at w.reads }
+-- k is what `Cursor::read` returned
+module _ (s : List ℕ) (marks : List Bool) (c : Cursor) (n : ℕ) (w : Marking s marks c n) where
+  -- where the records end
+  done : n ≡ length (records_of s) → Marks marks (records_of s)
+  done e = marked-all s marks n w.long w.reads (omega (arith, e))
 
-  module _ (h : n < count) where
-    more : n < length (records_of s)
-    more = omega (arith, w.all)
+  pub marking-end : 256 ≤ n → Marks marks (records_of s)
+  marking-end h = done (omega (arith, w.walk.among, records-few s))
 
-    -- a record stands at `at`
-    pub marking-stands : Stands s at
-    marking-stands = stands s at n w.walk more
+  module _ (k : Result (Record × Cursor) ℕ) (is : k ≡ read_at s c) where
+    pub marking-stop : (x : ℕ) → k ≡ Err x → Marks marks (records_of s)
+    marking-stop x e = done (all_read s c n w.walk k is x e)
 
-    pub marking-inside : at < length s
-    marking-inside = omega (arith, marking-stands.inside)
+    -- one more record: r is what was read
+    module _ (r : Record) (next : Cursor) (e : k ≡ Ok (r, next)) where
+      number : n < length (records_of s)
+      number = found_number s c n w.walk k is r next e
 
-    pub marking-number : n < 256
-    marking-number = omega (arith, records-few s, more)
+      taken : take (n + 1) (records_of s) ≡ take n (records_of s) ++ r ∷ []
+      taken =
+          ap (λ (m : ℕ). take m (records_of s)) (add-one n)
+          ∙ take-suc (records_of s) n X number
+          ∙ ap (λ (q : Record). take n (records_of s) ++ q ∷ []) (found-record s c n w.walk k is r next e X)
 
-    -- one more record: r is what `record_at` returned
-    pub marking-next : (r : Record) → row_at s at ≡ Some r → (m : Bool) → m ≡ is_face r → Marking s count (set marks n m) (at + 1 + get_or s at 0) (n + 1)
-    marking-next r row m e =
-        record {
-          all = w.all;
-          walk = before-next s at n w.walk more r row;
-          long = length-set marks n m ∙ w.long;
-          reads =
-              rw (stands-taken s at n w.walk more r row X)
-              (reads_more is_face X r m marks (take n (records_of s)) n (omega (arith, length-take n (records_of s), more)) (omega (arith, marking-number, w.long)) e w.reads);
-        }
+      pub marking-next : (m : Bool) → m ≡ is_face r → Marking s (set marks n m) next (n + 1)
+      marking-next m f =
+          record {
+            walk = at_next s c n w.walk k is r next e;
+            long = length-set marks n m ∙ w.long;
+            reads = marked-next s marks n w.long w.reads r number taken m f;
+          }

@@ -7,5 +7,5 @@ mod marking;
 mod standing;
 
 pub use by_kind::record_at;
-pub use marking::faces;
+pub use marking::{faces, faces_among};
 pub use standing::list_offsets;

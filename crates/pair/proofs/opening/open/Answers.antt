@@ -16,5 +16,5 @@ returns c =
     let t = mapped-good Map _ _ c.map_err.ensures.cases _ c.in_ok-root.was in
     search (rules, map-opened, sheet-good, good-count)
 
-pub faces-faces-requires : goal.faces-faces-requires
-faces-faces-requires c = search (rules, good-count)
+pub faces_among-faces-requires : goal.faces_among-faces-requires
+faces_among-faces-requires c = search (rules, good-count)

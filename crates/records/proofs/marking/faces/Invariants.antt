@@ -2,5 +2,5 @@
 use Rattle.records.proofs.Marks.{Marking}
 use Rattle.records.proofs.marking.faces.Given as goal
 
-abbrev pub invariant-loop-n : goal.invariant-loop-n
-invariant-loop-n l = Marking l.s l.count l.marks l.at l.n
+abbrev pub invariant-loop-mark : goal.invariant-loop-mark
+invariant-loop-mark l = Marking l.s l.mark-items l.c l.mark-index

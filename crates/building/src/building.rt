@@ -94,6 +94,7 @@ fn stored<L: Source>(
 ) -> Result<usize, Refusal>
     requires within { in_limits root ≡ true }
     requires suited { L.suits from.now root }
+    requires long { length words.old ≡ 640 }
     requires ready { Ready (records_of sheet.now) root.d (root_cube root) (work words.old known.old) t }
     ensures { outcome result out.new ≡ stored_of (map_of root (L.leaves from.now (records_of sheet.now) root)) out.old }
 {

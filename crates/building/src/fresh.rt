@@ -5,7 +5,7 @@ ghost use Rattle.cube.proofs.Limits.{limits-sizes};
 ghost use Rattle.tree.specs.Solid.{solid_state, leaves_below};
 ghost use Rattle.tree.proofs.Cubes.{leaves-few};
 
-use crate::Source;
+use crate::LentSource;
 use colour::Entries;
 use cube::Root;
 use tape::{Tape, Word};
@@ -14,7 +14,7 @@ use tree::Sink;
 #[derive(Drop)]
 pub struct Fresh;
 
-impl Source for Fresh {
+impl LentSource for Fresh {
     ghost leaves = { λ _ rs root. leaves_below (solid_state rs) root.d (root_cube root) };
 
     ghost suits = { λ _ _. Unit {0} };

@@ -5,6 +5,8 @@
 mod building;
 mod fresh;
 mod source;
+#[cfg(test)]
+mod tests;
 
 pub use building::{build, over_root};
-pub use source::Source;
+pub use source::{LentSource, Source};

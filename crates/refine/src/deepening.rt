@@ -5,7 +5,7 @@ ghost use Rattle.replacing.specs.Replace.{refined_leaves};
 ghost use Rattle.replacing.specs.Walk.{Deeper};
 ghost use Rattle.refine.specs.Leaves.{few};
 
-use building::Source;
+use building::LentSource;
 use colour::Entries;
 use cube::Root;
 use tape::{Tape, Word};
@@ -16,7 +16,7 @@ pub struct Deeper<'a> {
     pub map: &'a [u8],
 }
 
-impl Source for Deeper<'_> {
+impl LentSource for Deeper<'_> {
     ghost leaves = { λ from rs root. refined_leaves (solid_state rs) root.d from.map.now };
 
     ghost suits = { λ from root. Deeper from.map.now root };

@@ -5,7 +5,7 @@ use Rattle.cube.proofs.Cubes.{root-small}
 use Rattle.tree.specs.Solid.{solid_state}
 use Rattle.refine.proofs.Walks.{walks, all-between, passed-between}
 use borrow.Author.Rules.{rules}
-use Rattle.refine.proofs.deepening.DeeperSource.give.Goals as goal
+use Rattle.refine.proofs.deepening.DeeperLentSource.give.Goals as goal
 
 pub cube-requires : goal.cube-requires
 cube-requires g c = search (rules, root-small)

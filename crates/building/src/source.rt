@@ -15,7 +15,7 @@ use cube::Root;
 use tape::{Tape, Word};
 use tree::Sink;
 
-// What `over_root` builds a map from. The words lie on its stack, so a source can count on their number.
+// What `over_root` builds a map from. The words are those of `started`, so a source can count on their number.
 pub trait Source {
     // The leaves of its map, for the records of a sheet, over a root.
     ghost leaves: { Self → List Record → Root → List Leaf };
